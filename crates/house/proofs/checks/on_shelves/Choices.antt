@@ -1,0 +1,10 @@
+use Prim.Native.Nat.{_*_}
+use mathlib.Core.Path.{_≡_}
+use lib.ListN.{drop}
+use Rattle.house.specs.Bounds.{picksOf}
+use Rattle.house.specs.Rules.{firstFrom, outside}
+use Rattle.house.proofs.checks.on_shelves.Given as given
+
+-- the picks that are left tell which one is first
+abbrev pub Inv-loop-pick : given.InvT-loop-pick
+Inv-loop-pick l = firstFrom (outside (l .deep)) (l .pick) (picksOf (drop (2 * l .pick) (l .list))) ≡ firstFrom (outside (l .deep)) 0 (picksOf (l .list))
