@@ -1,7 +1,7 @@
 pub mod Accept
 pub mod Cut
 pub mod Exact
-pub mod First
+pub mod Found
 pub mod Pairs
 pub mod Tested
 pub mod Told

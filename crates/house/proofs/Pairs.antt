@@ -11,12 +11,8 @@ use Rattle.std.proofs.shelf.Lists.{drop-more, length-drop}
 use Rattle.std.specs.declared.option.Option.{Option}
 use Rattle.std.specs.declared.option.Option.the-variants.{Some, None}
 use Rattle.house.specs.House.{Spot, spot, desk}
-use Rattle.house.specs.Bounds.{picksOf}
+use Rattle.house.specs.Bounds.{picksOf, pairAt}
 use Rattle.house.specs.Rules.{firstFrom}
-
--- the pick whose bytes are the i-th pair
-abbrev pub pairAt : List ℕ → ℕ → Spot
-pairAt list i = spot (getD list (2 * i) 0) (getD list (2 * i + 1) 0)
 
 pub picks-more : (list : List ℕ) (i : ℕ) → i < length list / 2 → picksOf (drop (2 * i) list) ≡ pairAt list i ∷ picksOf (drop (2 * (i + 1)) list)
 picks-more list i h =
@@ -56,3 +52,13 @@ module _ (test : Spot → Bool) (list : List ℕ) (i : ℕ) where
   pub first-all : length list / 2 ≤ i → firstFrom test i (picksOf (drop (2 * i) list)) ≡ None
   unfolding firstFrom
   first-all h = ap (firstFrom test i) (picks-all list i h)
+
+pub pick-at : (list : List ℕ) (i : ℕ) (d : Spot) → i < length list / 2 → getD (picksOf list) i d ≡ pairAt list i
+pick-at [] i d h = absurd (omega arith)
+pick-at (a ∷ []) i d h = absurd (omega arith)
+pick-at (a ∷ y ∷ rest) zero d h = refl
+pick-at (a ∷ y ∷ rest) (suc i) d h =
+    let first : 2 * suc i ≡ suc (suc (2 * i)) = omega arith in
+    let second : 2 * suc i + 1 ≡ suc (suc (2 * i + 1)) = omega arith in
+    pick-at rest i d (omega arith) ∙ sym (ap (λ (k : ℕ). spot (getD (a ∷ y ∷ rest) k 0) (getD rest (2 * i + 1) 0)) first)
+    ∙ sym (ap (λ (k : ℕ). spot (getD (a ∷ y ∷ rest) (2 * suc i) 0) (getD (a ∷ y ∷ rest) k 0)) second)

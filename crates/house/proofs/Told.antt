@@ -12,7 +12,7 @@ use lib.ListN.{length, getD}
 use mathlib.Core.List.{List}
 use Rattle.house.specs.House.{Spot, desk}
 use Rattle.house.specs.Rules.{numberOf, placeOf, orElse, unless, atPick, firstFrom}
-use Rattle.house.proofs.First.{Finds, first-finds}
+use Rattle.house.proofs.Found.{Finds, first-finds}
 use Rattle.house.specs.declared.refusal.Refusal.{Refusal}
 
 -- what a refusal says of the rules from lo on, and its absence of those from lo to below hi

@@ -2,7 +2,7 @@
 -- Assumes nothing: these are definitions.
 use mathlib.Core.Path.{_≡_}
 use mathlib.Core.List.{List, [], _∷_}
-use Prim.Native.Nat.{ℕ, _*_, _≤_, _<_}
+use Prim.Native.Nat.{ℕ, _+_, _*_, _<_}
 use lib.ListN.{length, getD}
 use Rattle.house.specs.House.{Spot, spot, desk}
 
@@ -11,6 +11,10 @@ abbrev pub picksOf : List ℕ → List Spot
 picksOf [] = []
 picksOf (a ∷ []) = []
 picksOf (a ∷ y ∷ rest) = spot a y ∷ picksOf rest
+
+-- the pick whose bytes are the i-th pair
+abbrev pub pairAt : List ℕ → ℕ → Spot
+pairAt list i = spot (getD list (2 * i) 0) (getD list (2 * i + 1) 0)
 
 -- two bytes for each pick
 abbrev pub Whole : List ℕ → Type 0

@@ -3,7 +3,7 @@
 use mathlib.Core.Path.{_≡_}
 use mathlib.Core.Bool.{Bool, true, false, cond, _&&_}
 use mathlib.Core.List.{List}
-use Prim.Native.Nat.{ℕ, _+_, _*_, _-_, min}
+use Prim.Native.Nat.{ℕ, _+_, _*_, _-_, min, _≤_, _<_}
 use lib.Dec.{ltb, leb}
 use lib.ListN.{length, getD, take, drop}
 use denote.Ref.{RefT}
@@ -89,3 +89,8 @@ PassesOn list rule (Err e) = rule ≡ Some e
 abbrev pub ReadsHouse : List ℕ → Option Refusal → Result House Refusal → Type 0
 ReadsHouse file rule (Ok h) = (houseOf h ≡ houseIn file) × (rule ≡ None)
 ReadsHouse file rule (Err e) = rule ≡ Some e
+
+-- the pick at a place of a list, if there is one
+abbrev pub Gets : List ideal.Spot → ℕ → Option Spot → Type 0
+Gets picks i None = length picks ≤ i
+Gets picks i (Some s) = (i < length picks) × (spotOf s ≡ getD picks i ideal.desk)

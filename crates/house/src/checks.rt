@@ -2,6 +2,8 @@
 ghost use mathlib.Core.Path.{_≡_};
 ghost use Rattle.house.specs.Rules.{aislesRule, deepRule, apartRule, sizeRule, aisleRule, shelfRule};
 ghost use Rattle.house.specs.Reading.{HandsOn, PassesOn, countRule, claimedList};
+use crate::first::first_absent;
+use crate::first::first_outside;
 use crate::parts::claim_of;
 use crate::parts::count_of;
 use crate::refusal::Refusal;
@@ -66,22 +68,17 @@ pub(crate) fn counted_list(file: &[u8]) -> Result<&[u8], Refusal>
 pub(crate) fn in_aisles(aisles: u8, list: &[u8]) -> Result<&[u8], Refusal>
     ensures { λ r. ⌜ PassesOn (now (list .entry)) (aisleRule aisles (now (list .entry))) r ⌝ }
 {
-    for pick in 0..list.len() / 2 {
-        if list[2 * pick] >= aisles {
-            return Err(Refusal::NoAisle(pick));
-        }
-    }
-    Ok(list)
+    let Some(pick) = first_absent(aisles, list) else {
+        return Ok(list);
+    };
+    Err(Refusal::NoAisle(pick))
 }
 
 pub(crate) fn on_shelves(deep: u8, list: &[u8]) -> Result<&[u8], Refusal>
     ensures { λ r. ⌜ PassesOn (now (list .entry)) (shelfRule deep (now (list .entry))) r ⌝ }
 {
-    for pick in 0..list.len() / 2 {
-        let depth = list[2 * pick + 1];
-        if depth == 0 || depth >= deep {
-            return Err(Refusal::NoShelf(pick));
-        }
-    }
-    Ok(list)
+    let Some(pick) = first_outside(deep, list) else {
+        return Ok(list);
+    };
+    Err(Refusal::NoShelf(pick))
 }

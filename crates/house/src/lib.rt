@@ -1,5 +1,7 @@
 // Houses, pick lists and their reader.
 mod checks;
+mod entries;
+mod first;
 mod laws;
 mod layout;
 mod parts;

@@ -1,7 +1,6 @@
 // The parts of a file: each borrows from the file, and nothing is copied.
 ghost use mathlib.Core.Path.{_≡_};
-ghost use Prim.Native.Nat.{min};
-ghost use lib.ListN.{length, drop};
+ghost use lib.ListN.{take, drop};
 ghost use Rattle.house.specs.Reading.{byteAt, countIn, listIn, claimedList, claimedWay};
 
 // The pick list and the way of a file that claims a way.
@@ -27,12 +26,20 @@ pub(crate) fn count_of(file: &[u8]) -> usize
     byte_at(file, 3) as usize + 256 * byte_at(file, 4) as usize
 }
 
-// What follows the first n bytes.
-fn after(file: &[u8], n: usize) -> &[u8]
-    ensures { λ r. ⌜ now r ≡ drop n (now (file .entry)) ⌝ }
+// The first n bytes, or all where there are fewer.
+fn before(bytes: &[u8], n: usize) -> &[u8]
+    ensures { λ r. ⌜ now r ≡ take n (now (bytes .entry)) ⌝ }
 {
-    let start = n.min(file.len());
-    &file[start..]
+    let end = n.min(bytes.len());
+    &bytes[0..end]
+}
+
+// What follows the first n bytes.
+fn after(bytes: &[u8], n: usize) -> &[u8]
+    ensures { λ r. ⌜ now r ≡ drop n (now (bytes .entry)) ⌝ }
+{
+    let start = n.min(bytes.len());
+    &bytes[start..]
 }
 
 // The pick list of a file to plan: what follows the house.
@@ -47,8 +54,10 @@ pub fn claim_of(file: &[u8]) -> Claim<'_>
     ensures list { λ r. ⌜ now (r .list) ≡ claimedList (now (file .entry)) ⌝ }
     ensures way { λ r. ⌜ now (r .way) ≡ claimedWay (now (file .entry)) ⌝ }
 {
+    let n = 2 * count_of(file);
     let rest = after(file, 5);
-    let n = (2 * count_of(file)).min(rest.len());
-    let (list, way) = rest.split_at(n);
-    Claim { list, way }
+    Claim {
+        list: before(rest, n),
+        way: after(rest, n),
+    }
 }

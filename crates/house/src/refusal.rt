@@ -38,7 +38,7 @@ pub enum Refusal {
 }
 
 impl Memory {
-    pub fn place(self) -> usize
+    fn place(self) -> usize
         ensures { λ r. ⌜ r ≡ memoryOf self ⌝ }
     {
         match self {

@@ -7,4 +7,4 @@ use Rattle.house.proofs.parts.after.Needs as need
 
 pub returns : need.returns
 returns c =
-    take-rest (c .args .file .now) _ ∙ ap (λ (k : ℕ). drop k (c .args .file .now)) (c .min-start .ensures) ∙ drop-min (c .args .n) (c .args .file .now)
+    take-rest (c .args .bytes .now) _ ∙ ap (λ (k : ℕ). drop k (c .args .bytes .now)) (c .min-start .ensures) ∙ drop-min (c .args .n) (c .args .bytes .now)
