@@ -5,6 +5,8 @@ use std::error::AnyError;
 use std::fs;
 use std::io;
 use std::io::Read;
+use walk::Verdict;
+use walk::VerdictDisplay;
 
 fn input(rt: &LibcRuntime) -> io::Result<Vec<u8>> {
     let mut args = env::args(rt)?;
@@ -19,11 +21,17 @@ fn input(rt: &LibcRuntime) -> io::Result<Vec<u8>> {
 
 fn main(rt: LibcRuntime) -> Result<(), AnyError> {
     let bytes = rt.report(input(&rt))?;
-    if let Err(refusal) = house::read_claim(bytes.as_slice()) {
-        println!(rt, "{refusal}")?;
-        return Err("refused".into());
+    match walk::check(bytes.as_slice()) {
+        Ok(verdict) => {
+            println!(rt, "{verdict}")?;
+            if let Verdict::Way(_) = verdict {
+                return Ok(());
+            }
+            Err("no tour".into())
+        }
+        Err(refusal) => {
+            println!(rt, "{refusal}")?;
+            Err("refused".into())
+        }
     }
-    let picks = house::claim_of(bytes.as_slice()).list.len() / 2;
-    println!(rt, "{picks} picks")?;
-    Ok(())
 }

@@ -18,7 +18,7 @@ pub struct House {
 }
 
 // A depth in an aisle.
-#[derive(Clone, Copy)]
+#[derive(Clone, Copy, PartialEq, Eq, PartialOrd, Ord)]
 pub struct Spot {
     pub aisle: u8,
     pub depth: u8,
