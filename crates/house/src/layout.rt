@@ -17,7 +17,7 @@ pub struct House {
     ghost little_way: { apart ≤ 200 },
 }
 
-// A depth in an aisle.
+// A depth in an aisle. Spots are in order by aisle and then depth.
 #[derive(Clone, Copy, PartialEq, Eq, PartialOrd, Ord)]
 pub struct Spot {
     pub aisle: u8,

@@ -1,0 +1,15 @@
+pub mod Ending
+pub mod Halfway
+pub mod Joined
+pub mod Less
+pub mod Origin
+pub mod Parting
+pub mod Progress
+pub mod Rounded
+pub mod Settling
+pub mod Stuck
+pub mod Total
+pub mod Touched
+pub mod Touring
+pub mod Turns
+pub mod Walkable

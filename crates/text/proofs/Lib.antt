@@ -1,0 +1,4 @@
+pub mod Ahead
+pub mod Claimed
+pub mod Gathered
+pub mod Runs

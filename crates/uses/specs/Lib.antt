@@ -1,0 +1,12 @@
+pub mod Counting
+pub mod Edges
+pub mod Flood
+pub mod Held
+pub mod Layout
+pub mod Looking
+pub mod Promise
+pub mod Room
+pub mod Rounding
+pub mod Tours
+pub mod Uses
+pub mod Walked
