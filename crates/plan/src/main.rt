@@ -17,7 +17,8 @@ use text::claim;
 use text::plan_command;
 use text::way_text;
 
-const HELP: &str = "plan [FILE]            print a shortest tour past the picks of FILE, or of standard input
+const HELP: &str =
+    "plan [FILE]            print a shortest tour past the picks of FILE, or of standard input
 plan --steps [FILE]    write its steps instead, as check reads them
 plan --help            print this";
 
@@ -47,7 +48,14 @@ fn steps_of(rt: &LibcRuntime, file: &[u8]) -> Result<Result<Vec<u8>, Refusal>, A
     let mut came = vec![in heap; 0u8; 448]?;
     let mut steps = vec![in heap; 0u8; 25852]?;
     let mut uses = vec![in heap; 0u8; 12926]?;
-    match plan(file, &mut picks, &mut lengths, &mut came, &mut steps, &mut uses) {
+    match plan(
+        file,
+        &mut picks,
+        &mut lengths,
+        &mut came,
+        &mut steps,
+        &mut uses,
+    ) {
         Ok(walked) => {
             steps.truncate(walked.steps);
             Ok(Ok(steps))

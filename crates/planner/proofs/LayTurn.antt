@@ -28,10 +28,11 @@ module _ (h : House) (choices : List ℕ) (picks : List Entry) (was : List ℕ) 
       (from to a : ℕ) (us is : List ℕ) → a < h .aisles → places h ≤ length us → to ≡ from + run a (spotsOf (drop from picks)) →
       Adds h a (getD choices a 0) (depthsOf (spotsOf (take (to - from) (drop from picks)))) us is → Kept from a us → Kept to (a + 1) is
   unfolding picks-from
-  lay-turn from to a us is l room end adds (within, left, laid) =
-      (part-within a picks from to end within,
-       rest-spots a picks from to end ∙ ap (after-part a) left ∙ ap (picks-from (spotsOf picks)) (sym (add-one a)),
-       subst (λ n. Laid h (at choices) (part-at (spotsOf picks)) n was is) (sym (add-one a)) (laid-more h (at choices) (part-at (spotsOf picks)) was a us is l room own laid))
+  lay-turn from to a us is l room end adds (within, left, laid) = (
+    part-within a picks from to end within,
+    rest-spots a picks from to end ∙ ap (after-part a) left ∙ ap (picks-from (spotsOf picks)) (sym (add-one a)),
+    subst (λ n. Laid h (at choices) (part-at (spotsOf picks)) n was is) (sym (add-one a)) (laid-more h (at choices) (part-at (spotsOf picks)) was a us is l room own laid),
+  )
     where
       own : Adds h a (getD choices a 0) (part-at (spotsOf picks) a) us is
       own = subst (λ ds. Adds h a (getD choices a 0) ds us is) (ap depthsOf (part-spots a picks from to end) ∙ ap (part-depths a) left) adds

@@ -8,7 +8,6 @@ use Rattle.aisle.specs.Costs.{Depths, Among}
 use Rattle.aisle.specs.Order.{sorted, In-order, depthsIn}
 use Rattle.aisle.specs.Promise.{Pick-at, Lists}
 use Rattle.aisle.proofs.PartByPart.{From-place, from-start, run-is-part, from-next}
-
 use Rattle.aisle.proofs.SortedByAisle.{sorted-by-aisle, sorted-is-exact}
 use Rattle.planner.specs.Laying.{picks-from, part-at}
 use Rattle.planner.specs.Plans.{Picks-by-aisle}
@@ -27,7 +26,7 @@ parted-picks h picks deep sound =
     record {
       depths = λ a l. subst (Depths (h .deep)) (sym (same a)) (by a .0);
       every = λ i d l. subst (λ ds. Among ds (getD picks i d .depth)) (sym (same (getD picks i d .aisle))) (by (getD picks i d .aisle) .1 .every _ (i, d, l, refl, refl));
-      only = λ a y l m. by a .1 .only y (subst (λ ds. Among ds y) (same a) m)
+      only = λ a y l m. by a .1 .only y (subst (λ ds. Among ds y) (same a) m);
     }
   where
     by : (a : ℕ) → Depths (h .deep) (depthsIn (sorted picks) a) × Lists picks a (depthsIn (sorted picks) a)

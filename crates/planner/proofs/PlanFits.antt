@@ -29,5 +29,5 @@ plan-fits file {h} {list} same-house same-list e = rw (same-house, same-list) fi
           whole = a .whole;
           few = omega (arith, a .whole, a .few);
           in-aisles = λ i k. a .sound .inside i desk k .0;
-          on-shelves = λ i k. (a .sound .inside i desk k .1, a .sound .inside i desk k .2)
+          on-shelves = λ i k. (a .sound .inside i desk k .1, a .sound .inside i desk k .2);
         }

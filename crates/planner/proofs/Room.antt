@@ -38,5 +38,5 @@ room-tells picks lengths came steps uses e =
       for-lengths = leb-true _ _ (both .0);
       for-came = leb-true _ _ (both .1);
       for-steps = leb-true _ _ (rule-kept _ _ s);
-      for-uses = leb-true _ _ (rule-kept _ _ u)
+      for-uses = leb-true _ _ (rule-kept _ _ u);
     }

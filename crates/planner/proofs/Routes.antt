@@ -87,11 +87,11 @@ pub fits-sound : (h : House) (list : List ℕ) → Bounds h → InAisles (h .ais
 fits-sound h list b in-aisles on-shelves =
     record {
       some-aisle = b .some-aisle;
-      inside = λ i d l. rw (getD-default (picksOf list) i d desk l) (in-aisles i l, on-shelves i l .0, on-shelves i l .1)
+      inside = λ i d l. rw (getD-default (picksOf list) i d desk l) (in-aisles i l, on-shelves i l .0, on-shelves i l .1);
     }
 
 module _ (h : House) (bounds : Bounds h) (picks : List Spot) (sound : Sound h picks) (lengths came lengths′ came′ us us₁ : List ℕ)
-  (long : 448 ≤ length lengths) (long-came : 448 ≤ length came) (laid : Best-laid h (sorted picks) lengths came lengths′ came′ us us₁) where
+    (long : 448 ≤ length lengths) (long-came : 448 ≤ length came) (laid : Best-laid h (sorted picks) lengths came lengths′ came′ us us₁) where
   table : Filled-table h (part-at (sorted picks)) (tables lengths came) (tables lengths′ came′)
   table =
       subst (Filled-table h (part-at (sorted picks)) (tables lengths came)) (sym (laid .table))
@@ -108,7 +108,7 @@ module _ (h : House) (bounds : Bounds h) (picks : List Spot) (sound : Sound h pi
   best-room steps l m =
       room-to-walk h us₁ steps l m
       (count-few h us₁ (bounds .few-aisles) (bounds .little-depth)
-       (λ e i. omega (arith, laid .lays e i, laid-small h (chosen (h .aisles) came′ (laid .end)) (part-at (sorted picks)) e)))
+      (λ e i. omega (arith, laid .lays e i, laid-small h (chosen (h .aisles) came′ (laid .end)) (part-at (sorted picks)) e)))
 
   pub best-walked :
       (us′ steps steps′ : List ℕ) (r : Result Walked Unwalked) → 25852 ≤ length steps → 12926 ≤ length us₁ → WalksUses h us₁ us′ steps steps′ r → isOk r ≡ true
@@ -129,7 +129,7 @@ module _ (h : House) (bounds : Bounds h) (picks : List Spot) (sound : Sound h pi
         used-up = t .used-up;
         beyond = λ k l. t .beyond k l ∙ laid .beyond k l;
         in-order = in-order;
-        table = laid .table
+        table = laid .table;
       }
     where
       t : Tours h picks us₁ us′ steps steps′ w
@@ -151,7 +151,7 @@ pub facts :
 facts h picks was is lengths came lengths′ came′ us us₁ n s sorts told laid =
     record {
       holds = subst (λ k. Holds k (sorted picks) was is) (done .1) (done .2);
-      laid = subst (λ ss. Best-laid h ss lengths came lengths′ came′ us us₁) (ap (λ (k : ℕ). spotsOf (take k is)) whole ∙ done .2 .first) laid
+      laid = subst (λ ss. Best-laid h ss lengths came lengths′ came′ us us₁) (ap (λ (k : ℕ). spotsOf (take k is)) whole ∙ done .2 .first) laid;
     }
   where
     done : (512 ≤ length was) × (n ≡ length picks) × Holds n (sorted picks) was is

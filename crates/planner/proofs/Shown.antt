@@ -62,7 +62,7 @@ ring-alike h picks f g same r =
     record {
       even = λ s. omega (arith, degrees s, r .even s);
       used = λ s p. links (r .used s (omega (arith, degrees s)));
-      picked = λ i d l. links (r .picked i d l)
+      picked = λ i d l. links (r .picked i d l);
     }
   where
     degrees : (s : Spot) → degree h f s ≡ degree h g s
@@ -72,8 +72,8 @@ ring-alike h picks f g same r =
     links l = linked-more (house-graph h) (λ e i p. omega (arith, same e i)) l
 
 module _ (h : House) (picks : List Spot) (ds : ℕ → List ℕ) (lengths came : List ℕ) (sound : Sound h picks) (by-aisle : Picks-by-aisle h picks ds)
-  (starts : Starts h ds (row-of lengths 0)) (goes : (a : ℕ) → suc a < h .aisles → Goes-on h ds a (row-of lengths a) (row-of lengths (suc a)))
-  (from : Came-from h ds lengths came) (end : Class) (ends : Ends lengths (h .aisles - 1) end) where
+    (starts : Starts h ds (row-of lengths 0)) (goes : (a : ℕ) → suc a < h .aisles → Goes-on h ds a (row-of lengths a) (row-of lengths (suc a)))
+    (from : Came-from h ds lengths came) (end : Class) (ends : Ends lengths (h .aisles - 1) end) where
   last : h .aisles - 1 < h .aisles
   last = omega (arith, sound .some-aisle)
 
@@ -100,7 +100,7 @@ module _ (h : House) (picks : List Spot) (ds : ℕ → List ℕ) (lengths came :
       record {
         entry = end-row;
         closes-tour = ends .whole;
-        least = λ d v is whole. let known = some-length (length-at lengths (h .aisles - 1) d) v is in omega (arith, ends .least d whole, known .0)
+        least = λ d v is whole. let known = some-length (length-at lengths (h .aisles - 1) d) v is in omega (arith, ends .least d whole, known .0);
       }
 
   best-plan : Traced h ds lengths came from (h .aisles - 1) end (length-at lengths (h .aisles - 1) end)
@@ -124,7 +124,7 @@ module _ (h : House) (picks : List Spot) (ds : ℕ → List ℕ) (lengths came :
     round-of-laid =
         from-ring (heldIn h us)
         (ring-alike h picks (use-of (uses-of (laid (best-plan .plan)))) (heldIn h us) (λ e i. by-edge (laid (best-plan .plan)) e ∙ sym (held-laid e i))
-         (to-ring (plans-are-round h picks ds (length-at lengths (h .aisles - 1) end) (record { class = end; plan = best-plan .plan; closes-tour = ends .whole }) sound by-aisle .0)))
+        (to-ring (plans-are-round h picks ds (length-at lengths (h .aisles - 1) end) (record { class = end; plan = best-plan .plan; closes-tour = ends .whole }) sound by-aisle .0)))
 
     -- any tour with these uses is shortest
     pub shortest-of-laid : (t : Tour h picks) → ((e : Edge) → In h e → counted h (t .walk) e ≡ heldIn h us e) → Shortest-tour h picks t (length-at lengths (h .aisles - 1) end)

@@ -84,7 +84,7 @@ module _ (h : House) (ds : ℕ → List ℕ) (lengths came : List ℕ) (from : C
     first-traced = subst (Traced 0 c) (sym (f .costs)) (record { plan = first-plan; lays = first-lays })
 
   module _ (a : ℕ) (c : Class) (w : ℕ) (l : Later-choice h ds a (row-of lengths a) (getD came (cell (suc a) c) 0) c w)
-    (before : Traced a (choice-class (getD came (cell (suc a) c) 0)) (l .before)) where
+      (before : Traced a (choice-class (getD came (cell (suc a) c) 0)) (l .before)) where
     later-plan : Plan h ds (suc a) c (l .before + passage-cost h (choice-passage (getD came (cell (suc a) c) 0)) + use-cost (h .deep) (l .way))
     later-plan = next (before .plan) (choice-passage (getD came (cell (suc a) c) 0)) (choice-effect (getD came (cell (suc a) c) 0)) (l .way) (l .leads) (l .is-best)
 

@@ -49,7 +49,14 @@ fn part(house: House, picks: &[Spot], from: usize, aisle: u8) -> Costed
 }
 
 // The rows from an aisle on, for the picks from a place on.
-pub(crate) fn fill(house: House, picks: &[Spot], from: usize, aisle: u8, lengths: &mut [u32], came: &mut [u8])
+pub(crate) fn fill(
+    house: House,
+    picks: &[Spot],
+    from: usize,
+    aisle: u8,
+    lengths: &mut [u32],
+    came: &mut [u8],
+)
     requires { ⌜ 448 ≤ length (now lengths) ⌝ ∗ ⌜ 448 ≤ length (now came) ⌝ ∗ ⌜ from ≤ length (now picks) ⌝ }
     ensures { λ _. ⌜ tables (now (lengths .exit)) (now (came .exit)) ≡ filled (houseOf house) (house .aisles - aisle) aisle (spotsOf (drop from (now (picks .entry)))) (tables (now (lengths .entry)) (now (came .entry))) ⌝ }
 {

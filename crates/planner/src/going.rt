@@ -34,7 +34,10 @@ pub fn transition(class: Class, passage: Passage, effect: Effect) -> Option<Clas
             Effect::ThroughOnce => Some(Class::OddOdd),
             _ => Some(Class::EvenOne),
         },
-        (Class::EvenBack | Class::EvenFront | Class::EvenTwo | Class::NothingYet, Passage::TwoEach) => match effect {
+        (
+            Class::EvenBack | Class::EvenFront | Class::EvenTwo | Class::NothingYet,
+            Passage::TwoEach,
+        ) => match effect {
             Effect::Nothing => Some(Class::EvenTwo),
             Effect::FromFront => Some(Class::EvenTwo),
             Effect::FromBack => Some(Class::EvenTwo),
@@ -50,10 +53,11 @@ pub fn transition(class: Class, passage: Passage, effect: Effect) -> Option<Clas
             Effect::ThroughOnce => Some(Class::OddOdd),
             Effect::ThroughTwice => Some(Class::EvenOne),
         },
-        (Class::EvenBack | Class::EvenFront | Class::EvenOne | Class::Closed, Passage::None) => match effect {
-            Effect::Nothing => Some(Class::Closed),
-            _ => None,
-        },
+        (Class::EvenBack | Class::EvenFront | Class::EvenOne | Class::Closed, Passage::None) =>
+            match effect {
+                Effect::Nothing => Some(Class::Closed),
+                _ => None,
+            },
         _ => None,
     }
 }
@@ -75,7 +79,8 @@ pub fn closes(class: Class) -> bool
     ensures { λ r. ⌜ r ≡ closes (classOf class) ⌝ }
 {
     match class {
-        Class::EvenBack | Class::EvenFront | Class::EvenOne | Class::NothingYet | Class::Closed => true,
+        Class::EvenBack | Class::EvenFront | Class::EvenOne | Class::NothingYet | Class::Closed =>
+            true,
         Class::OddOdd | Class::EvenTwo => false,
     }
 }

@@ -88,7 +88,13 @@ pub(crate) fn lay(house: House, picks: &[Spot], choices: [u8; 64], uses: &mut [u
     let mut from = 0;
     for aisle in 0..house.aisles {
         let to = part_end(picks, from, aisle);
-        lay_aisle(uses, house, aisle, choices[aisle as usize], &picks[from..to]);
+        lay_aisle(
+            uses,
+            house,
+            aisle,
+            choices[aisle as usize],
+            &picks[from..to],
+        );
         from = to;
     }
 }

@@ -24,7 +24,13 @@ use house::list_of;
 use house::read;
 
 // Holds the sizes of lent memory to what the largest house asks for.
-fn enough(picks: usize, lengths: usize, came: usize, steps: usize, uses: usize) -> Result<(), Refusal>
+fn enough(
+    picks: usize,
+    lengths: usize,
+    came: usize,
+    steps: usize,
+    uses: usize,
+) -> Result<(), Refusal>
     ensures { λ r. ⌜ Cases r (λ _. roomFor picks lengths came steps uses ≡ None) (λ e. roomFor picks lengths came steps uses ≡ Some e) ⌝ }
 {
     if picks < 512 {
@@ -54,7 +60,14 @@ fn lay_best(house: House, picks: &[Spot], lengths: &mut [u32], came: &mut [u8], 
 }
 
 // A shortest tour past the picks of a list.
-fn route(list: PickList<'_>, picks: &mut [Spot], lengths: &mut [u32], came: &mut [u8], steps: &mut [u8], uses: &mut [u8]) -> Walked
+fn route(
+    list: PickList<'_>,
+    picks: &mut [Spot],
+    lengths: &mut [u32],
+    came: &mut [u8],
+    steps: &mut [u8],
+    uses: &mut [u8],
+) -> Walked
     requires picks { ⌜ 512 ≤ length (now picks) ⌝ }
     requires tables { ⌜ 448 ≤ length (now lengths) ⌝ ∗ ⌜ 448 ≤ length (now came) ⌝ }
     requires walk { ⌜ 25852 ≤ length (now steps) ⌝ ∗ ⌜ 12926 ≤ length (now uses) ⌝ }
@@ -66,10 +79,23 @@ fn route(list: PickList<'_>, picks: &mut [Spot], lengths: &mut [u32], came: &mut
 }
 
 // Plans a file: holds the memory to its sizes and the file to its rules, and writes the steps of a shortest tour past its picks.
-pub fn plan(file: &[u8], picks: &mut [Spot], lengths: &mut [u32], came: &mut [u8], steps: &mut [u8], uses: &mut [u8]) -> Result<Walked, Refusal>
+pub fn plan(
+    file: &[u8],
+    picks: &mut [Spot],
+    lengths: &mut [u32],
+    came: &mut [u8],
+    steps: &mut [u8],
+    uses: &mut [u8],
+) -> Result<Walked, Refusal>
     ensures { λ r. ⌜ Plans (now (file .entry)) (lent (now (picks .entry)) (now (lengths .entry)) (now (came .entry)) (now (steps .entry)) (now (uses .entry))) (lent (now (picks .exit)) (now (lengths .exit)) (now (came .exit)) (now (steps .exit)) (now (uses .exit))) r ⌝ }
 {
-    let room = enough(picks.len(), lengths.len(), came.len(), steps.len(), uses.len());
+    let room = enough(
+        picks.len(),
+        lengths.len(),
+        came.len(),
+        steps.len(),
+        uses.len(),
+    );
     let Ok(()) = room else {
         return Err(room.unwrap_err());
     };

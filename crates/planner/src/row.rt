@@ -27,7 +27,14 @@ pub(crate) struct Stage {
 }
 
 // One way to go on is offered to the class that it leads to.
-fn go(lengths: &mut [u32], came: &mut [u8], stage: Stage, class: Class, passage: Passage, effect: Effect)
+fn go(
+    lengths: &mut [u32],
+    came: &mut [u8],
+    stage: Stage,
+    class: Class,
+    passage: Passage,
+    effect: Effect,
+)
     requires { ⌜ 448 ≤ length (now lengths) ⌝ ∗ ⌜ 448 ≤ length (now came) ⌝ ∗ ⌜ stage .aisle + 1 < 64 ⌝ }
     ensures { λ _. ⌜ tables (now (lengths .exit)) (now (came .exit)) ≡ go (stage .apart) (priced (stage .prices)) (stage .aisle) (classOf class) (passageOf passage) (effectOf effect) (tables (now (lengths .entry)) (now (came .entry))) ⌝ }
 {
@@ -35,8 +42,16 @@ fn go(lengths: &mut [u32], came: &mut [u8], stage: Stage, class: Class, passage:
         return;
     };
     let before = lengths[cell(stage.aisle, class)];
-    let total = before.saturating_add(toll(stage.apart, passage)).saturating_add(stage.prices.of(effect));
-    offered(lengths, came, cell(stage.aisle + 1, next), total, choice_number(class, passage, effect));
+    let total = before
+        .saturating_add(toll(stage.apart, passage))
+        .saturating_add(stage.prices.of(effect));
+    offered(
+        lengths,
+        came,
+        cell(stage.aisle + 1, next),
+        total,
+        choice_number(class, passage, effect),
+    );
 }
 
 // One class goes on over given passages, with each effect of the next aisle's use.
@@ -83,7 +98,13 @@ fn opened(lengths: &mut [u32], came: &mut [u8], prices: Prices, effect: Effect)
     ensures { λ _. ⌜ tables (now (lengths .exit)) (now (came .exit)) ≡ opened (priced prices) (effectOf effect) (tables (now (lengths .entry)) (now (came .entry))) ⌝ }
 {
     let class = opening(effect);
-    offered(lengths, came, cell(0, class), prices.of(effect), choice_number(Class::NothingYet, Passage::None, effect));
+    offered(
+        lengths,
+        came,
+        cell(0, class),
+        prices.of(effect),
+        choice_number(Class::NothingYet, Passage::None, effect),
+    );
 }
 
 // The row of the first aisle, with the desk at its front.

@@ -23,6 +23,6 @@ returns c =
       end = c .part-end-to .ensures;
       within = part-within (c .args .aisle) (c .args .picks .now) (c .args .from) (c .part-end-to .result) (c .part-end-to .ensures) (c .pre);
       costs = λ e. c .past-prices .ensures e ∙ ap (λ (r : Option Reach). price-from (c .args .house .deep) r e) (c .of .ensures)
-        ∙ ap (λ (ss : List Spot). price-from (c .args .house .deep) (reachIn (depthsOf ss)) e) (part-spots (c .args .aisle) (c .args .picks .now) (c .args .from) (c .part-end-to .result) (c .part-end-to .ensures))
-        ∙ ap (cost-or-never (c .args .house .deep)) (best-from-reach (c .args .house .deep) _ e)
+          ∙ ap (λ (ss : List Spot). price-from (c .args .house .deep) (reachIn (depthsOf ss)) e) (part-spots (c .args .aisle) (c .args .picks .now) (c .args .from) (c .part-end-to .result) (c .part-end-to .ensures))
+          ∙ ap (cost-or-never (c .args .house .deep)) (best-from-reach (c .args .house .deep) _ e);
     }

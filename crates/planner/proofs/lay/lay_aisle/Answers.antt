@@ -6,6 +6,8 @@ use Rattle.planner.proofs.lay.lay_aisle.Needs as need
 
 pub paint-requires : need.paint-requires
 paint-requires c κs =
-    omega
-    (arith, aisle-end (houseOf (c .args .house)) (c .args .aisle) (c .args .house .aisles) (c .pre .1),
-     lanes-few (houseOf (c .args .house)) (c .args .house .«few_aisles») (c .args .house .«little_depth»))
+    omega (
+      arith,
+      aisle-end (houseOf (c .args .house)) (c .args .aisle) (c .args .house .aisles) (c .pre .1),
+      lanes-few (houseOf (c .args .house)) (c .args .house .«few_aisles») (c .args .house .«little_depth»),
+    )
