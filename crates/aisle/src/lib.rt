@@ -1,4 +1,6 @@
 // What an aisle may cost: the kinds of use of an aisle, its picks in order of depth, and the cheapest use for each effect on its ends.
+#![tactic(auto)]
+
 mod ends;
 mod in_order;
 mod kinds;

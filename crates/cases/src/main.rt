@@ -1,4 +1,6 @@
 // Plans each list that is named, and has the checker judge the steps of its tour: a line for each, with the length and the verdict.
+#![tactic(auto)]
+
 use house::Spot;
 use planner::plan;
 use std::{env, fs};

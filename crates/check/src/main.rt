@@ -1,4 +1,6 @@
 // Judges a way that is claimed to be a tour, read from the file that is named or else from standard input.
+#![tactic(auto)]
+
 use anyhow::anyhow;
 use std::io::Read;
 use std::{env, fs, io};

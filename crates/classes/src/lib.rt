@@ -1,4 +1,6 @@
 // The classes of partial tours, and how they go on from an aisle to the next.
+#![tactic(auto)]
+
 mod class;
 mod going;
 mod laws;

@@ -1,4 +1,6 @@
 // From round uses to the steps of a tour.
+#![tactic(auto)]
+
 mod answer;
 mod choice;
 mod copies;

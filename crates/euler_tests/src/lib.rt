@@ -1,4 +1,6 @@
 // Tests of uses made into tours: tables of uses, each with the answer that it must have.
+#![tactic(auto)]
+
 #[cfg(test)]
 mod case;
 mod lists;

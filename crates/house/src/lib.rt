@@ -1,4 +1,6 @@
 // Houses, pick lists and their reader.
+#![tactic(auto)]
+
 mod checks;
 mod entries;
 mod first;

@@ -1,4 +1,6 @@
 // Tests of how a file to plan and a claim are read: tables of files, each with the answer that it must have.
+#![tactic(auto)]
+
 #[cfg(test)]
 mod answer;
 #[cfg(test)]

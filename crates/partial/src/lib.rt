@@ -1,4 +1,6 @@
 // Partial tours: what the next aisle costs, the table of the shortest of each class, and the choices of the best plan, read back from it.
+#![tactic(auto)]
+
 mod choosing;
 mod ending;
 mod fill;

@@ -1,4 +1,6 @@
 // Plans a pick list: prints the pieces of a shortest tour and its length, writes its steps for the checker, or draws it.
+#![tactic(auto)]
+
 use anyhow::anyhow;
 use house::{House, Refusal, Spot, list_of};
 use picture::picture;

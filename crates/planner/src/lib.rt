@@ -1,4 +1,6 @@
 // The planner: the best plan's uses are laid down and walked, and no tour is shorter.
+#![tactic(auto)]
+
 mod laws;
 mod lay;
 mod planning;

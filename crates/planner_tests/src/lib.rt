@@ -1,4 +1,6 @@
 // Tests of the planner from outside: worked lists, and small houses beside the shortest of all walks.
+#![tactic(auto)]
+
 #[cfg(test)]
 mod forms;
 #[cfg(test)]

@@ -1,4 +1,6 @@
 // The way as text: its pieces without a turn, their lines, and what the programs decide.
+#![tactic(auto)]
+
 mod claims;
 mod command;
 mod laws;

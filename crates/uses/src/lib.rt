@@ -1,4 +1,6 @@
 // How often each stretch of a house is used: uses in a lent slice, what they cost, and whether they are round.
+#![tactic(auto)]
+
 mod costing;
 mod counting;
 mod flood;

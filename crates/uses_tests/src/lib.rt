@@ -1,4 +1,6 @@
 // Tests of counting: the uses of shortest ways, what they cost, and that they are round; and what is refused.
+#![tactic(auto)]
+
 #[cfg(test)]
 mod tests {
     use house::{House, PickList, Refusal, claim_of, read_claim};

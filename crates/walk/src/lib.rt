@@ -1,4 +1,6 @@
 // Walks through a house: their steps, their length, and the checker of a way.
+#![tactic(auto)]
+
 mod checker;
 mod going;
 mod laws;

@@ -1,4 +1,6 @@
 // Ways and what the checker says of them.
+#![tactic(auto)]
+
 #[cfg(test)]
 mod tests {
     use std::alloc::{AllocError, Global};
