@@ -5,4 +5,4 @@ pub invariant-of-picks : goal.invariant-of-picks
 invariant-of-picks c =
     let read = c.in-Ok.ensures in
     let f = plan_fits c.args.file.now read.0 c.list-of.ensures read.1 in
-    (f.whole, (f.few, (f.in_aisles, (f.on_shelves, tt))))
+    record { whole = f.whole; few = f.few; in_aisles = f.in_aisles; on_shelves = f.on_shelves }

@@ -6,7 +6,7 @@ pub invariant-of-list : goal.invariant-of-list
 invariant-of-list c =
     let told = c.in-Ok-checked.ensures in
     let f = plan_fits c.args.file.now told.0 c.list-of.ensures told.1 in
-    (f.whole, (f.few, (f.in_aisles, (f.on_shelves, tt))))
+    record { whole = f.whole; few = f.few; in_aisles = f.in_aisles; on_shelves = f.on_shelves }
 
 pub route-requires : goal.route-requires
 route-requires c =

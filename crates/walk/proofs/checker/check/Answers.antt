@@ -1,11 +1,11 @@
 use Rattle.house.proofs.Fits.{claim_fits}
 use Rattle.walk.proofs.checker.check.Goals as goal
 
-pub invariant-of-picks : goal.invariant-of-picks
-invariant-of-picks c =
+pub invariant_of-picks : goal.invariant_of-picks
+invariant_of-picks c =
     let read = c.in-Ok.ensures in
-    let f = claim_fits c.args.file.now read.0 c.claim-of-claim.ensures.list read.1 in
-    (f.whole, (f.few, (f.in_aisles, (f.on_shelves, tt))))
+    let f = claim_fits c.args.file.now read.0 c.claim_of-claim.ensures.list read.1 in
+    record { whole = f.whole; few = f.few; in_aisles = f.in_aisles; on_shelves = f.on_shelves }
 
 pub judged-requires : goal.judged-requires
 judged-requires c = let walked = c.in-Ok-walked.ensures in cc (walked.2, c.none-marks.ensures)

@@ -3,4 +3,4 @@ use Rattle.walk.proofs.Judge.{tour_by_marks}
 use Rattle.walk.proofs.checker.judged.Goals as goal
 
 pub returns : goal.returns
-returns c = c.tour-unless.ensures ∙ tour_by_marks c.args.picks c.args.way.now c.requires c.first-missed.ensures
+returns c = c.tour_unless.ensures ∙ tour_by_marks c.args.picks c.args.way.now c.requires c.first_missed.ensures

@@ -11,8 +11,8 @@ use Rattle.walk.proofs.checker.walk_over.Goals as goal
 pub loop-i-init : goal.loop-i-init
 loop-i-init c = trail_none _ _ _ _ (omega arith) refl
 
-pub returns-in-default : goal.returns-in-default
-returns-in-default c = ap (at_pick LeadsOut) (trail_out _ _ _ _ _ _ c.loop-i.invariant c.loop-i-test.true c.in-default.ensures.0)
+pub returns-in_default : goal.returns-in_default
+returns-in_default c = ap (at_pick LeadsOut) (trail_out _ _ _ _ _ _ c.loop-i.invariant c.loop-i-test.true c.in_default.ensures.0)
 
 pub loop-i-preserved : goal.loop-i-preserved
 loop-i-preserved c = let on = c.in-Some.ensures in trail_more _ _ _ _ _ _ c.loop-i.invariant c.loop-i-test.true on.0 on.1
