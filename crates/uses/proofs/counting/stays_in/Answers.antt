@@ -7,8 +7,8 @@ use Rattle.uses.proofs.counting.stays_in.Goals as goal
 pub loop-i-init : goal.loop-i-init
 loop-i-init c = reach_none _ _ (omega arith)
 
-pub returns-in-default : goal.returns-in-default
-returns-in-default c = ap (at_pick LeadsOut) (reach_out _ _ _ _ c.loop-i.invariant c.loop-i-test.true c.in-default.ensures)
+pub returns-in_default : goal.returns-in_default
+returns-in_default c = ap (at_pick LeadsOut) (reach_out _ _ _ _ c.loop-i.invariant c.loop-i-test.true c.in_default.ensures)
 
 pub loop-i-preserved : goal.loop-i-preserved
 loop-i-preserved c = reach_more _ _ _ _ c.loop-i.invariant c.loop-i-test.true c.in-Some.ensures.leads

@@ -16,4 +16,4 @@ pub loop-at-preserved : goal.loop-at-preserved
 loop-at-preserved c = flood_more _ _ (omega arith) (omega arith) c.loop-at.invariant c.in-Some.ensures c.leave.ensures.after
 
 pub returns : goal.returns
-returns c = flood_end _ _ (omega arith) (omega arith) (omega arith) c.loop-at.invariant c.in-default.ensures
+returns c = flood_end _ _ (omega arith) (omega arith) (omega arith) c.loop-at.invariant c.in_default.ensures

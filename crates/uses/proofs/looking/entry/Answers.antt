@@ -3,4 +3,4 @@ use Rattle.uses.proofs.Taken.{sees}
 use Rattle.uses.proofs.looking.entry.Goals as goal
 
 pub returns : goal.returns
-returns c = λ t l. sees _ _ _ (sym l) c.place-of.ensures
+returns c = λ t l. sees _ _ _ (sym l) c.place_of.ensures

@@ -12,5 +12,5 @@ returns-in-Some c = record {
   less = c.offer.ensures.less;
 }
 
-pub returns-in-default : goal.returns-in-default
-returns-in-default c = record { after = sym (tried_out _ _ _ _ _ c.in-default.ensures); less = omega arith }
+pub returns-in_default : goal.returns-in_default
+returns-in_default c = record { after = sym (tried_out _ _ _ _ _ c.in_default.ensures); less = omega arith }
