@@ -8,12 +8,12 @@ pub total-passages-requires : goal.total-passages-requires
 total-passages-requires c =
     let few = places_few (house_of c.args.house) (omega arith) (omega arith) in (omega arith, omega arith)
 
-pub overflow-mul-result : goal.overflow-mul-result
-overflow-mul-result c =
+pub overflow_mul-result : goal.overflow_mul-result
+overflow_mul-result c =
     omega (arith, count_of_cost c.args.uses.now (house_of c.args.house) c.total-passages.result (omega arith) c.total-passages.ensures)
 
-pub overflow-sub-result-2 : goal.overflow-sub-result-2
-overflow-sub-result-2 c =
+pub overflow_sub-result-2 : goal.overflow_sub-result-2
+overflow_sub-result-2 c =
     omega (arith, count_of_cost c.args.uses.now (house_of c.args.house) c.total-passages.result (omega arith) c.total-passages.ensures)
 
 pub returns : goal.returns

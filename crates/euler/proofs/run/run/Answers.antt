@@ -2,8 +2,8 @@ use Rattle.std.proofs.Common.{refl, arith}
 use Rattle.euler.proofs.Lanes.{leads_once, worn_forward, ran_by}
 use Rattle.euler.proofs.run.run.Goals as goal
 
-pub returns-in-default : goal.returns-in-default
-returns-in-default c =
+pub returns-in_default : goal.returns-in_default
+returns-in_default c =
     ran_by (omega arith) (omega arith)
     (leads_once c.requires.opens c.byte.ensures)
     refl

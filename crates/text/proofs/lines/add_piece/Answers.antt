@@ -12,7 +12,7 @@ four-parts text {w' = w'} {s' = s'} {d' = d'} {e' = e'} one-is w-is two_is s-is 
 
 pub returns : goal.returns
 returns c =
-    let space = c.in-ok-push.ensures in
-    let newline = c.in-ok-push-2.ensures in
-    four-parts _ c.in-ok-push-str.ensures.bytes c.words.ensures space.bytes (space.ascii (omega arith))
-    c.in-ok-add-number.ensures (ap decimal c.steps.ensures) newline.bytes (newline.ascii (omega arith))
+    let space = c.in_ok-push.ensures in
+    let newline = c.in_ok-push-2.ensures in
+    four-parts _ c.in_ok-push_str.ensures.bytes c.words.ensures space.bytes (space.ascii (omega arith))
+    c.in_ok-add_number.ensures (ap decimal c.steps.ensures) newline.bytes (newline.ascii (omega arith))

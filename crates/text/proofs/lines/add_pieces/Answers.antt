@@ -26,23 +26,23 @@ length_more :
     (so_far + more) + measure h after ≡ total
 length_more h so_far more {rest} f e long steps left = omega (arith, f.long h, ap (measure h) (left ∙ ap (λ (k : ℕ). drop k rest) steps))
 
-pub overflow-add-length : goal.overflow-add-length
-overflow-add-length c =
+pub overflow_add-length : goal.overflow_add-length
+overflow_add-length c =
     let h = house_of c.args.house in
-    omega (arith, measure_few h (omega arith) c.args.way.now, (front_piece _ _ c.in-Some.ensures).long h, c.loop-piece.invariant.1, c.piece-length-length.ensures)
+    omega (arith, measure_few h (omega arith) c.args.way.now, (front_piece _ _ c.in-Some.ensures).long h, c.loop-piece.invariant.1, c.piece_length-length.ensures)
 
-pub overflow-add-result : goal.overflow-add-result
-overflow-add-result c = omega (arith, measure_few (house_of c.args.house) (omega arith) c.args.way.now, c.loop-piece.invariant.1, c.measure.ensures)
+pub overflow_add-result : goal.overflow_add-result
+overflow_add-result c = omega (arith, measure_few (house_of c.args.house) (omega arith) c.args.way.now, c.loop-piece.invariant.1, c.measure.ensures)
 
-pub split-at-requires : goal.split-at-requires
-split-at-requires c = omega (arith, c.steps.ensures, (front_piece _ _ c.in-Some.ensures).within)
+pub split_at-requires : goal.split_at-requires
+split_at-requires c = omega (arith, c.steps.ensures, (front_piece _ _ c.in-Some.ensures).within)
 
 pub loop-piece-smaller : goal.loop-piece-smaller
-loop-piece-smaller c = omega (arith, c.steps.ensures, (front_piece _ _ c.in-Some.ensures).some, c.split-at.ensures.back_len)
+loop-piece-smaller c = omega (arith, c.steps.ensures, (front_piece _ _ c.in-Some.ensures).some, c.split_at.ensures.back_len)
 
 pub loop-piece-preserved : goal.loop-piece-preserved
 loop-piece-preserved c =
     let front = front_piece _ _ c.in-Some.ensures in (
-      line-more _ front c.loop-piece.invariant.0 c.in-ok-add-piece.ensures c.steps.ensures c.split-at.ensures.back,
-      length_more _ _ _ front c.loop-piece.invariant.1 c.piece-length-length.ensures c.steps.ensures c.split-at.ensures.back,
+      line-more _ front c.loop-piece.invariant.0 c.in_ok-add_piece.ensures c.steps.ensures c.split_at.ensures.back,
+      length_more _ _ _ front c.loop-piece.invariant.1 c.piece_length-length.ensures c.steps.ensures c.split_at.ensures.back,
     )

@@ -2,11 +2,11 @@ use Rattle.std.proofs.Common.{arith, true-eqb, false-eqb}
 use Rattle.text.proofs.Runs.{first_of_none, first_of_run}
 use Rattle.text.proofs.pieces.first_run.Goals as goal
 
-pub returns-then-is-empty : goal.returns-then-is-empty
-returns-then-is-empty c = first_of_none c.args.way.now (true-eqb _ 0 c.if-is-empty.ensures)
+pub returns-then-is_empty : goal.returns-then-is_empty
+returns-then-is_empty c = first_of_none c.args.way.now (true-eqb _ 0 c.if-is_empty.ensures)
 
 pub returns : goal.returns
 returns c =
-    let some = false-eqb _ 0 c.if-is-empty.ensures in
-    let run = c.length-of-run.ensures in
-    first_of_run c.args.way.now c.length-of-run.result (omega arith) run.within run.same run.stops
+    let some = false-eqb _ 0 c.if-is_empty.ensures in
+    let run = c.length_of_run.ensures in
+    first_of_run c.args.way.now c.length_of_run.result (omega arith) run.within run.same run.stops

@@ -6,8 +6,8 @@ use Rattle.aisle.specs.Values.{spots_of}
 use Rattle.aisle.proofs.Passed.{reach_parted}
 use Rattle.aisle.proofs.reach.Reach.begin.Goals as goal
 
-pub returns-in-default : goal.returns-in-default
-returns-in-default c = ap (λ (l : List Spot). reach_in (depths_of (spots_of l))) (nil_from_length c.args.part.now (omega (arith, ltb-true)))
+pub returns-in_default : goal.returns-in_default
+returns-in_default c = ap (λ (l : List Spot). reach_in (depths_of (spots_of l))) (nil_from_length c.args.part.now (omega (arith, ltb-true)))
 
 pub returns : goal.returns
-returns c = reach_parted _ _ _ (omega (arith, ltb-false)) c.only-at.ensures
+returns c = reach_parted _ _ _ (omega (arith, ltb-false)) c.only_at.ensures
