@@ -48,8 +48,8 @@ fn effect_place(effect: Effect) -> u8
 
 pub(crate) fn cell(aisle: usize, class: Class) -> usize
     requires { aisle < 64 }
-    ensures value { result ≡ cell aisle (class_of class) }
-    ensures upper_bound { result < 448 }
+    ensures place { result ≡ cell aisle (class_of class) }
+    ensures within { result < 448 }
 {
     7 * aisle + class_place(class) as usize
 }

@@ -70,8 +70,8 @@ pub fn choice_effect(choice: u8) -> Effect
 // The choice at each aisle of the plan that ends in a class of the last row.
 pub(crate) fn trace(aisles: u8, end: Class, came: &[u8]) -> [u8; 64]
     requires { (aisles ≤ 64) × (448 ≤ length came.now) }
-    ensures by_index { (a : ℕ) → aisles ≤ a → slice_index result a ≡ 0 }
-    ensures by_index_2 { (a : ℕ) → a < aisles → slice_index result a ≡ chosen aisles came.now (class_of end) a }
+    ensures beyond { (a : ℕ) → aisles ≤ a → slice_index result a ≡ 0 }
+    ensures each { (a : ℕ) → a < aisles → slice_index result a ≡ chosen aisles came.now (class_of end) a }
 {
     let mut choices = [0; 64];
     let mut class = end;

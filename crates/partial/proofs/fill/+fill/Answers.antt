@@ -8,5 +8,5 @@ returns-then-aisle-house t c = filled_none _ _ _ _ _ (omega arith)
 
 pub returns : goal.returns
 returns t c =
-    filled_more (house_of c.args.house) c.args.house.aisles c.args.aisle _ _ _ _ _ _ (omega arith) c.part_next.ensures.costs
-    (rest_spots c.args.aisle c.args.picks.now c.args.from _ c.part_next.ensures.end) c.fill-row.ensures c.fill.ensures
+    filled_more (house_of c.args.house) c.args.house.aisles c.args.aisle _ _ _ _ _ _ (omega arith) c.part-next.ensures.costs
+    (rest_spots c.args.aisle c.args.picks.now c.args.from _ c.part-next.ensures.end) c.fill_row.ensures c.fill.ensures

@@ -3,7 +3,7 @@ use Rattle.partial.proofs.row.next_row.Goals as goal
 
 pub returns : goal.returns
 returns c =
-    row_by _ _ _ _ _ _ c.clear-row.ensures
+    row_by _ _ _ _ _ _ c.clear_row.ensures
     (spread_on _ _ _ _ _ _ _ _ _ c.extend.ensures
     (spread_on _ _ _ _ _ _ _ _ _ c.extend-2.ensures
     (spread_on _ _ _ _ _ _ _ _ _ c.extend-3.ensures

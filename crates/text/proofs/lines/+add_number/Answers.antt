@@ -1,7 +1,7 @@
 use Rattle.std.proofs.Common.{◌≡◌, ℕ, ◌+◌, ◌/◌, ◌%◌, ◌^◌, ◌<◌, ◌≤◌, List, [], ◌∷◌, ◌++◌, string_bytes, decimal, sym, ap, ◌∙◌, append_assoc, arith}
 use Rattle.std.proofs.lemmas.Fmt.{decimal_digit, decimal_step}
 use Rattle.text.proofs.lines.+add_number.Goals as goal
-use Rattle.text.proofs.lines.+add_number.Goals.{then-n-ge10+in-ok-add-number, else-n-ge10}
+use Rattle.text.proofs.lines.+add_number.Goals.{then-n-ge10+in_ok-add_number, else-n-ge10}
 
 -- the last digit of a number, after the others or alone
 module _ (n : ℕ) (text before after digit : List ℕ) where
@@ -17,9 +17,9 @@ module _ (n : ℕ) (text before after digit : List ℕ) where
 
 pub returns : goal.returns
 returns t c =
-    let pushed = c.in-ok-push.ensures in
+    let pushed = c.in_ok-push.ensures in
     elim c.if-n-ge10.branch [
-      | then-n-ge10+in-ok-add-number w ↦
-          digit-more c.args.n _ _ _ _ (omega arith) (omega arith) (ap string_bytes w.text-is ∙ w.in-ok-add-number.ensures) pushed.bytes (pushed.ascii (omega arith))
+      | then-n-ge10+in_ok-add_number w ↦
+          digit-more c.args.n _ _ _ _ (omega arith) (omega arith) (ap string_bytes w.text-is ∙ w.in_ok-add_number.ensures) pushed.bytes (pushed.ascii (omega arith))
       | else-n-ge10 w ↦ digit-alone c.args.n _ _ _ _ (omega arith) (ap string_bytes w.text-is) pushed.bytes (pushed.ascii (omega arith))
     ]
