@@ -6,7 +6,7 @@ pub loop-aisle-init : goal.loop-aisle-init
 loop-aisle-init c = aisles_none _ _
 
 pub loop-aisle-preserved : goal.loop-aisle-preserved
-loop-aisle-preserved c = aisles_more _ _ _ c.loop-aisle.invariant c.in-ok-add-aisle.ensures
+loop-aisle-preserved c = aisles_more _ _ _ c.loop-aisle.invariant c.in_ok-add_aisle.ensures
 
 pub returns : goal.returns
 returns c = aisles_all _ _ c.loop-aisle.aisle c.args.house.aisles (omega arith) c.loop-aisle.invariant

@@ -7,4 +7,4 @@ use Rattle.picture.proofs.sheet.add_floor.Goals as goal
 pub returns : goal.returns
 returns c =
     let h = house_of c.args.house in
-    three_more (string_bytes c.args.text.now) (ways_lines h) (aisle_lines h h.aisles) (desk_lines h) c.in-ok-add-ways.ensures c.in-ok-add-aisles.ensures c.in-ok-add-desk.ensures
+    three_more (string_bytes c.args.text.now) (ways_lines h) (aisle_lines h h.aisles) (desk_lines h) c.in_ok-add_ways.ensures c.in_ok-add_aisles.ensures c.in_ok-add_desk.ensures

@@ -9,5 +9,5 @@ use Rattle.picture.proofs.sheet.add_way.Goals as goal
 pub returns : goal.returns
 unfolding way_of
 returns c =
-    three_more (string_bytes c.args.text.now) way_style (strokes (house_of c.args.house) desk None c.args.way.now) foot_lines c.in-ok-push-str.ensures.bytes
-    c.in-ok-add-strokes.ensures c.in-ok-push-str-2.ensures.bytes
+    three_more (string_bytes c.args.text.now) way_style (strokes (house_of c.args.house) desk None c.args.way.now) foot_lines c.in_ok-push_str.ensures.bytes
+    c.in_ok-add_strokes.ensures c.in_ok-push_str-2.ensures.bytes

@@ -10,6 +10,6 @@ unfolding background_of
 returns c =
     let h = house_of c.args.house in
     let list = c.args.list.now in
-    four_more (string_bytes c.new-text.result) (open_line h) (title_lines c.args.length) (floor_of h) (pick_lines list) c.in-ok-add-open.ensures
-    c.in-ok-add-title.ensures c.in-ok-add-floor.ensures c.in-ok-add-picks.ensures
+    four_more (string_bytes c.new-text.result) (open_line h) (title_lines c.args.length) (floor_of h) (pick_lines list) c.in_ok-add_open.ensures
+    c.in_ok-add_title.ensures c.in_ok-add_floor.ensures c.in_ok-add_picks.ensures
     ∙ ap (λ (text : List ℕ). text ++ background_of h list c.args.length) c.new-text.ensures.bytes

@@ -10,5 +10,5 @@ pub returns : goal.returns
 returns c =
     let at = spot_of c.args.at in
     let last = last_of c.args.last in
-    two_more (string_bytes c.args.text.now) (line_ended at last) (line_begun at last (byte_of c.args.step)) c.in-ok-add-end.ensures c.in-ok-add-start.ensures
-    ∙ ap (λ (added : List ℕ). string_bytes c.args.text.now ++ added) (sym (cond-false _ _ _ (sym c.goes-on.ensures ∙ c.if-goes-on.false)))
+    two_more (string_bytes c.args.text.now) (line_ended at last) (line_begun at last (byte_of c.args.step)) c.in_ok-add_end.ensures c.in_ok-add_start.ensures
+    ∙ ap (λ (added : List ℕ). string_bytes c.args.text.now ++ added) (sym (cond-false _ _ _ (sym c.goes_on.ensures ∙ c.if-goes_on.false)))

@@ -4,6 +4,6 @@ use Rattle.planner.proofs.lay.paint_gap.Goals as goal
 
 pub returns : goal.returns
 returns c =
-    painted_gap c.args.gap.lo c.args.gap.hi c.min-lo.result c.saturating-sub.result (omega arith) (omega arith)
-    (record { inside = c.fill-run.ensures.inside; outside = c.fill-run.ensures.outside })
-    (record { inside = c.fill-run-2.ensures.inside; outside = c.fill-run-2.ensures.outside })
+    painted_gap c.args.gap.lo c.args.gap.hi c.min-lo.result c.saturating_sub.result (omega arith) (omega arith)
+    (record { inside = c.fill_run.ensures.inside; outside = c.fill_run.ensures.outside })
+    (record { inside = c.fill_run-2.ensures.inside; outside = c.fill_run-2.ensures.outside })

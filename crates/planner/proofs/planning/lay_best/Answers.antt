@@ -7,11 +7,11 @@ use Rattle.planner.proofs.Routes.{is_chosen, chosen_laid}
 use Rattle.planner.proofs.planning.lay_best.Goals as goal
 
 pub unwrap-choices-requires : goal.unwrap-choices-requires
-unwrap-choices-requires c = is_chosen _ _ (tables c.args.lengths.now c.args.came.now) _ _ (omega arith) (omega arith) c.best-choices.ensures
+unwrap-choices-requires c = is_chosen _ _ (tables c.args.lengths.now c.args.came.now) _ _ (omega arith) (omega arith) c.best_choices.ensures
 
 pub returns : goal.returns
 returns c =
     chosen_laid _ _ _ _ _ _ c.unwrap-choices.result _ _
     (subst (Chooses (house_of c.args.house) (spots_of c.args.picks.now) (tables c.args.lengths.now c.args.came.now) _) c.unwrap-choices.ensures
-    c.best-choices.ensures).1
+    c.best_choices.ensures).1
     c.lay.ensures

@@ -2,10 +2,10 @@ use Rattle.house.proofs.Fits.{plan_fits}
 use Rattle.planner.proofs.Room.{room_tells}
 use Rattle.planner.proofs.planning.plan.Goals as goal
 
-pub invariant-of-list : goal.invariant-of-list
-invariant-of-list c =
+pub invariant_of-list : goal.invariant_of-list
+invariant_of-list c =
     let told = c.in-Ok-checked.ensures in
-    let f = plan_fits c.args.file.now told.0 c.list-of.ensures told.1 in
+    let f = plan_fits c.args.file.now told.0 c.list_of.ensures told.1 in
     record { whole = f.whole; few = f.few; in_aisles = f.in_aisles; on_shelves = f.on_shelves }
 
 pub route-requires : goal.route-requires

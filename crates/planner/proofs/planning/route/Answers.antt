@@ -13,15 +13,15 @@ bounds h =
 pub unwrap-requires : goal.unwrap-requires
 unwrap-requires c =
     let h = house_of c.args.list.house in
-    let f = facts h (picks_of c.args.list.bytes.now) _ _ _ _ _ _ _ _ c.unwrap-n.result _ c.sort-picks.ensures c.unwrap-n.ensures c.lay-best.ensures in
+    let f = facts h (picks_of c.args.list.bytes.now) _ _ _ _ _ _ _ _ c.unwrap-n.result _ c.sort_picks.ensures c.unwrap-n.ensures c.lay_best.ensures in
     best_walked h (bounds c.args.list.house) (picks_of c.args.list.bytes.now)
     (fits_sound h c.args.list.bytes.now (bounds c.args.list.house) c.args.list.in_aisles c.args.list.on_shelves) _ _ _ _ _ _ c.requires.tables.0
-    c.requires.tables.1 f.laid _ _ _ _ (omega arith) (omega arith) c.walk-uses.ensures
+    c.requires.tables.1 f.laid _ _ _ _ (omega arith) (omega arith) c.walk_uses.ensures
 
 pub returns : goal.returns
 returns c =
     let h = house_of c.args.list.house in
-    let f = facts h (picks_of c.args.list.bytes.now) _ _ _ _ _ _ _ _ c.unwrap-n.result _ c.sort-picks.ensures c.unwrap-n.ensures c.lay-best.ensures in
+    let f = facts h (picks_of c.args.list.bytes.now) _ _ _ _ _ _ _ _ c.unwrap-n.result _ c.sort_picks.ensures c.unwrap-n.ensures c.lay_best.ensures in
     routed h (bounds c.args.list.house) (picks_of c.args.list.bytes.now)
     (fits_sound h c.args.list.bytes.now (bounds c.args.list.house) c.args.list.in_aisles c.args.list.on_shelves) _ _ _ _ _ _ c.requires.tables.0
-    c.requires.tables.1 f.laid _ _ _ _ _ c.unwrap.result (omega arith) f.holds (subst (WalksUses h _ _ _ _) c.unwrap.ensures c.walk-uses.ensures)
+    c.requires.tables.1 f.laid _ _ _ _ _ c.unwrap.result (omega arith) f.holds (subst (WalksUses h _ _ _ _) c.unwrap.ensures c.walk_uses.ensures)
