@@ -17,8 +17,8 @@ pub struct House {
     ghost little_way: { apart ≤ 200 },
 }
 
-// A depth in an aisle.
-#[derive(Clone, Copy)]
+// A depth in an aisle. Spots are in order by aisle and then depth.
+#[derive(Clone, Copy, PartialEq, Eq, PartialOrd, Ord)]
 pub struct Spot {
     pub aisle: u8,
     pub depth: u8,
