@@ -1,8 +1,8 @@
 // Judges a way that is claimed to be a tour, read from the file that is named or else from standard input.
 #![tactic(auto)]
 
-use anyhow::anyhow;
 use std::io::Read;
+use std::process::ExitCode;
 use std::{env, fs, io};
 use text::{CheckCommand, Source, check_command};
 use walk::Verdict;
@@ -45,7 +45,8 @@ fn run(rt: &HostRuntime, command: CheckCommand) -> anyhow::Result<bool> {
     }
 }
 
-fn main(rt: HostRuntime) -> anyhow::Result<()> {
+// What goes wrong is told here, and the status is all that is left of it.
+fn main(rt: HostRuntime) -> io::Result<ExitCode> {
     let mut args = env::args(&rt)?;
     let _program = args.next();
     let first = args.next();
@@ -54,15 +55,15 @@ fn main(rt: HostRuntime) -> anyhow::Result<()> {
         Ok(command) => command,
         Err(misuse) => {
             eprintln!(rt; "check: {misuse}")?;
-            return Err(anyhow!("misuse"));
+            return Ok(ExitCode::FAILURE);
         }
     };
     match run(&rt, command) {
-        Ok(true) => Ok(()),
-        Ok(false) => Err(anyhow!("no tour")),
+        Ok(true) => Ok(ExitCode::SUCCESS),
+        Ok(false) => Ok(ExitCode::FAILURE),
         Err(error) => {
             eprintln!(rt; "check: {error}")?;
-            Err(error)
+            Ok(ExitCode::FAILURE)
         }
     }
 }

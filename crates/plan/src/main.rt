@@ -1,11 +1,11 @@
 // Plans a pick list: prints the pieces of a shortest tour and its length, writes its steps for the checker, or draws it.
 #![tactic(auto)]
 
-use anyhow::anyhow;
 use house::{House, Refusal, Spot, list_of};
 use picture::picture;
 use planner::plan;
 use std::io::{Read, Write};
+use std::process::ExitCode;
 use std::{env, fs, io};
 use text::{PlanCommand, Source, claim, plan_command, way_text};
 
@@ -117,7 +117,8 @@ fn run(rt: &HostRuntime, command: PlanCommand) -> anyhow::Result<bool> {
     }
 }
 
-fn main(rt: HostRuntime) -> anyhow::Result<()> {
+// What goes wrong is told here, and the status is all that is left of it.
+fn main(rt: HostRuntime) -> io::Result<ExitCode> {
     let mut args = env::args(&rt)?;
     let _program = args.next();
     let first = args.next();
@@ -127,15 +128,15 @@ fn main(rt: HostRuntime) -> anyhow::Result<()> {
         Ok(command) => command,
         Err(misuse) => {
             eprintln!(rt; "plan: {misuse}")?;
-            return Err(anyhow!("misuse"));
+            return Ok(ExitCode::FAILURE);
         }
     };
     match run(&rt, command) {
-        Ok(true) => Ok(()),
-        Ok(false) => Err(anyhow!("no tour")),
+        Ok(true) => Ok(ExitCode::SUCCESS),
+        Ok(false) => Ok(ExitCode::FAILURE),
         Err(error) => {
             eprintln!(rt; "plan: {error}")?;
-            Err(error)
+            Ok(ExitCode::FAILURE)
         }
     }
 }
