@@ -145,7 +145,7 @@ pub fn check_answer(
     Ok(())
 }
 
-pub fn check_case(rt: &impl Abort, case: Case) -> Result<(), Fail> {
+pub fn check_case(rt: &impl Abort, i: usize, case: Case) -> Result<(), Fail> {
     let Case([aisles, deep, apart], stretches, wanted) = case;
     let Ok(house) = house::read(&[aisles, deep, apart]) else {
         return Err(Fail::new(format_args!("no house")));
@@ -156,13 +156,13 @@ pub fn check_case(rt: &impl Abort, case: Case) -> Result<(), Fail> {
     lay(house, stretches, &mut uses);
     let mut before = uses;
     let answer = answer_to(walk_uses(house, &mut uses, &mut steps));
-    assert_eq!(rt; answer, wanted);
+    assert_eq!(rt; answer, wanted, "case {i}");
     check_answer(rt, house, &mut before, &uses, &steps, wanted)
 }
 
 pub fn check_cases(rt: &impl Abort, cases: &[Case]) -> Result<(), Fail> {
     for (i, case) in cases.iter().enumerate() {
-        check_case(rt, *case).note(format_args!("case {i}"))?;
+        check_case(rt, i, *case)?;
     }
     Ok(())
 }

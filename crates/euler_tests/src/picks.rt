@@ -10,7 +10,7 @@ use std::test::Fail;
 #[derive(Clone, Copy)]
 struct Row(&'static [u8], &'static [Stretch], Answer);
 
-fn check_row(rt: &impl Abort, row: Row) -> Result<(), Fail> {
+fn check_row(rt: &impl Abort, i: usize, row: Row) -> Result<(), Fail> {
     let Row(file, stretches, wanted) = row;
     let Ok(house) = house::read(file) else {
         return Err(Fail::new(format_args!("no house")));
@@ -19,7 +19,8 @@ fn check_row(rt: &impl Abort, row: Row) -> Result<(), Fail> {
     let mut steps = [9; 26000];
     lay(house, stretches, &mut uses);
     let mut before = uses;
-    assert_eq!(rt; answer_to(walk_list(file, &mut uses, &mut steps)), wanted);
+    let answer = answer_to(walk_list(file, &mut uses, &mut steps));
+    assert_eq!(rt; answer, wanted, "row {i}");
     check_answer(rt, house, &mut before, &uses, &steps, wanted)
 }
 
@@ -46,7 +47,7 @@ fn picks_on_the_way_and_off_it(rt: HostRuntime) -> Result<(), Fail> {
         Row(&[1, 200, 1, 0, 4], &[Lane(0, 0, 200, 130)], Refused(9, 2)),
     ];
     for (i, row) in rows.iter().enumerate() {
-        check_row(&rt, *row).note(format_args!("row {i}"))?;
+        check_row(&rt, i, *row)?;
     }
     Ok(())
 }

@@ -1,5 +1,6 @@
 // What a way is made of, read from its uses alone: the passages between neighbouring aisles, the kind of use of each aisle, and the class of what is used up to it.
 use house::House;
+use std::process::Abort;
 use std::test::*;
 use uses::count;
 
@@ -141,11 +142,10 @@ fn more(counts: &mut [u32], i: usize) {
 }
 
 // Each was seen, but for the one that must not be.
-fn check_seen(counts: &[u32], never: Option<usize>) -> Result<(), Fail> {
+fn check_seen(rt: &impl Abort, what: &str, counts: &[u32], never: Option<usize>) {
     for (i, times) in counts.iter().enumerate() {
-        assert!((*times == 0) == (Some(i) == never), "{counts:?}");
+        assert!(rt; (*times == 0) == (Some(i) == never), "{what}: {counts:?}");
     }
-    Ok(())
 }
 
 impl Counts {
@@ -200,9 +200,14 @@ impl Counts {
     // None of the tours goes through an aisle twice: this is seen here, and proved nowhere.
     // No class is "nothing used yet": the desk's two uses are at the front of aisle 0, so that with an empty list too
     // the class after aisle 0 is even at the front only, and after every other aisle it is closed.
-    pub fn check_all_seen(&self) -> Result<(), Fail> {
-        check_seen(&self.passages, None).note("passages")?;
-        check_seen(&self.kinds, Some(Kind::Twice as usize)).note("kinds")?;
-        check_seen(&self.classes, Some(Class::NothingYet as usize)).note("classes")
+    pub fn check_all_seen(&self, rt: &impl Abort) {
+        check_seen(rt, "passages", &self.passages, None);
+        check_seen(rt, "kinds", &self.kinds, Some(Kind::Twice as usize));
+        check_seen(
+            rt,
+            "classes",
+            &self.classes,
+            Some(Class::NothingYet as usize),
+        );
     }
 }

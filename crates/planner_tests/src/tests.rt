@@ -50,8 +50,12 @@ fn check_house(
     let mut steps = [9; STEPS];
     let walked = planned(rt, heap, file, &mut steps)?;
     let n = walked.steps;
-    assert!(rt; n <= STEPS);
-    assert_eq!(rt; Some(walked.length), shortest(house, list_of(file)));
+    assert!(rt; n <= STEPS, "{file:?}");
+    assert_eq!(rt;
+        Some(walked.length),
+        shortest(house, list_of(file)),
+        "{file:?}"
+    );
     counts.add_way(house, &steps[0..n])
 }
 
@@ -61,7 +65,8 @@ fn small_houses(rt: HostRuntime) -> Result<(), Fail> {
     let mut counts = Counts::none();
     for _ in 0..HOUSES {
         let file = draws.list(rt.alloc())?;
-        check_house(&rt, rt.alloc(), &file, &mut counts).note(format_args!("{file:?}"))?;
+        check_house(&rt, rt.alloc(), &file, &mut counts)?;
     }
-    counts.check_all_seen()
+    counts.check_all_seen(&rt);
+    Ok(())
 }

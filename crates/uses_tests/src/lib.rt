@@ -105,7 +105,7 @@ mod tests {
             return Err(Fail::new("no cost"));
         };
         assert_eq!(rt; length, tour.length);
-        assert!(rt; round(tour.claim, &uses));
+        assert!(rt; round(tour.claim, &uses), "length {}", tour.length);
         check_each_use(rt, tour, &mut uses);
         Ok(())
     }
@@ -113,7 +113,7 @@ mod tests {
     #[test]
     fn shortest_ways(rt: HostRuntime) -> Result<(), Fail> {
         for tour in &TOURS {
-            check_tour(&rt, tour).note(format_args!("length {}", tour.length))?;
+            check_tour(&rt, tour)?;
         }
         Ok(())
     }
