@@ -14,9 +14,12 @@ use Rattle.euler.specs.declared.pass.Pass.{Pass}
 abbrev pub begun : ℕ → Pass
 begun n = record { top = 0; tail = n; at = record { aisle = 0; depth = 0 }; end = record { aisle = 0; depth = 0 } }
 
+abbrev pub advanced : Pass → code.Spot → Pass
+advanced p to = record { top = p.top + 1; tail = p.tail; at = to; end = p.end }
+
 -- so many steps on, to a spot
-abbrev pub advanced : Pass → ℕ → code.Spot → Pass
-advanced p long to = record { top = p.top + long; tail = p.tail; at = to; end = p.end }
+abbrev pub advanced_by : Pass → ℕ → code.Spot → Pass
+advanced_by p long to = record { top = p.top + long; tail = p.tail; at = to; end = p.end }
 
 abbrev pub retreated : Pass → code.Spot → Pass
 retreated p from = record { top = p.top - 1; tail = p.tail - 1; at = from; end = from }
