@@ -71,10 +71,10 @@ pub record Closes (h : House) (us steps : List ℕ) (n : ℕ) : Type 0 where
   pub written : steps_of walk ≡ take n steps
   pub uses : (e : Edge) → In h e → counted h walk e ≡ held_in h us e
 
--- a pass tells of uses whether they are round, and uses them up if they are
-abbrev pub Decides : House → List ℕ → List ℕ → List ℕ → ℕ → Bool → Type 0
-Decides h us us' steps n true = Closes h us steps n × ((k : ℕ) → k < places h → slice_index us' k ≡ 0)
-Decides h us us' steps n false = Round h [] (uses_in h us) → ⊥
+-- a pass tells of uses whether they are round
+abbrev pub Decides : House → List ℕ → List ℕ → ℕ → Bool → Type 0
+Decides h us steps n true = Closes h us steps n
+Decides h us steps n false = Round h [] (uses_in h us) → ⊥
 
 -- a closed walk whose steps are written first, and whose uses are used up
 pub record Settled (h : House) (us us' steps steps' : List ℕ) (n : ℕ) : Type 0 where
