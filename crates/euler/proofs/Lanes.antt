@@ -1,5 +1,5 @@
 -- Runs in an aisle, deeper and towards the front way, and along one passage. Assumes nothing.
-use Rattle.std.proofs.Common.{◌≡◌, ℕ, zero, suc, ◌+◌, ◌-◌, ◌*◌, ◌<◌, ◌≤◌, List, length, get_or, Some, sym, ap, ◌∙◌, subst₂, arith}
+use Rattle.std.proofs.Common.{◌≡◌, ℕ, zero, suc, ◌+◌, ◌-◌, ◌*◌, ◌<◌, ◌≤◌, List, length, get_or, set, Some, sym, ap, ◌∙◌, subst, subst₂, arith, length-set, get_or-set_other, get_or-set_same}
 use native.Mathlib.Decide.{dec_lt}
 use Rattle.house.specs.House.{House, Spot, spot}
 use Rattle.house.specs.Reading.{spot_of}
@@ -12,7 +12,7 @@ use Rattle.uses.specs.Layout.{places}
 use Rattle.uses.specs.Looking.{Sees}
 use Rattle.uses.proofs.Places.{place_below}
 use Rattle.euler.specs.Choosing.{Opens}
-use Rattle.euler.specs.Passing.{advanced, filled, Worn, Leads, Ran}
+use Rattle.euler.specs.Passing.{advanced_by, filled, Worn, Leads, Ran}
 use Rattle.euler.specs.declared.pass.Pass.{Pass}
 
 module _ (h : House) where
@@ -121,11 +121,31 @@ module _ {left left' : List ℕ} (start long : ℕ) (same : length left' ≡ len
             ];
       }
 
+-- one use written down
+pub worn_once :
+    {left left' : List ℕ} (entry : ℕ) → entry < length left → left' ≡ set left entry (get_or left entry 0 - 1) → Worn left left' (λ i. entry + i) 1
+worn_once {left} entry here taken =
+    subst
+    (λ (l : List ℕ). Worn left l (λ i. entry + i) 1)
+    (sym taken)
+    (worn_forward entry 1 (length-set left entry (get_or left entry 0 - 1)) worn (λ k l. others k (omega arith)) (λ k l. others k (omega arith)))
+  where
+    less : List ℕ
+    less = set left entry (get_or left entry 0 - 1)
+
+    others : (k : ℕ) → ¬ (k ≡ entry) → get_or less k 0 ≡ get_or left k 0
+    others k z = get_or-set_other left entry k (get_or left entry 0 - 1) 0 z
+
+    worn : (k : ℕ) → entry ≤ k → k < entry + 1 → get_or less k 0 ≡ get_or left k 0 - 1
+    worn k i l =
+        let e : k ≡ entry = omega arith in
+        ap (λ (z : ℕ). get_or less z 0) e ∙ get_or-set_same left entry (get_or left entry 0 - 1) 0 here ∙ ap (λ (z : ℕ). get_or left z 0 - 1) (sym e)
+
 -- a run, put together
 pub ran_by :
     {h : House} {left left' steps steps' : List ℕ} {p q : Pass} {to : code.Spot} {byte long : ℕ} {spots : ℕ → Spot} {entry : ℕ → ℕ} → 0 < long →
     p.top + long ≤ p.tail → Leads h left byte long spots entry → spots 0 ≡ spot_of p.at → spots long ≡ spot_of to → Worn left left' entry long →
-    steps' ≡ filled steps p.top byte long → q ≡ advanced p long to → Ran h left left' steps steps' p q
+    steps' ≡ filled steps p.top byte long → q ≡ advanced_by p long to → Ran h left left' steps steps' p q
 ran_by {p = p} {q} {to} {byte} {long} {spots} {entry} some room leads from lands worn written is =
     record {
       byte = byte;

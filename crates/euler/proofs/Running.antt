@@ -18,6 +18,10 @@ module _ (steps : List ℕ) (start b : ℕ) where
   unfolding filled
   filled_more n = rw add-one
 
+  pub filled_once : filled steps start b 1 ≡ set steps start b
+  unfolding filled
+  filled_once = let e : start + 0 ≡ start = omega arith in ap (λ (k : ℕ). set steps k b) e
+
   length_filled : (n : ℕ) → length (filled steps start b n) ≡ length steps
   unfolding filled
   length_filled zero = refl

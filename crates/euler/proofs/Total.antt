@@ -1,5 +1,6 @@
 -- The number of uses in a slice is the sum over its places; where that is 0 every place holds 0. Assumes nothing.
-use Rattle.std.proofs.Common.{◌≡◌, ℕ, zero, suc, ◌+◌, ◌-◌, ◌*◌, ◌<◌, ◌≤◌, List, get_or, ap, add-mul, arith}
+use Rattle.std.proofs.Common.{◌≡◌, ℕ, zero, suc, ◌+◌, ◌-◌, ◌*◌, ◌<◌, ◌≤◌, List, get_or, take, drop, ap, ◌∙◌, add-mul, arith, get_or-take}
+use Rattle.std.proofs.lemmas.List.{get_or-drop}
 use native.Mathlib.Decide.{dec_lt}
 use Rattle.house.specs.House.{House}
 use Rattle.uses.specs.Edges.{priced}
@@ -8,6 +9,7 @@ use Rattle.uses.specs.Layout.{places, held_in, uses_in}
 use Rattle.uses.specs.Uses.{cost}
 use Rattle.uses.proofs.HeldCost.{held_both, held_more, cost_held}
 use Rattle.uses.proofs.Laws.{size}
+use Rattle.uses.proofs.Span.{span_alike}
 
 module _ (us : List ℕ) where
   pub held_zero : (n : ℕ) → held us 0 n ≡ 0 → (k : ℕ) → k < n → get_or us k 0 ≡ 0
@@ -20,6 +22,16 @@ module _ (us : List ℕ) where
         | yes m ↦ held_zero n (omega arith) k m
         | no m ↦ let same : k ≡ n = omega arith in omega (arith, ap (λ (i : ℕ). get_or us i 0) same)
       ]
+
+  -- the places from one on, as the first of a slice that begins there
+  pub held_behind : (start n m : ℕ) → n ≤ m → held (take m (drop start us)) 0 n ≡ held us start n
+  unfolding held
+  held_behind start n m fits = span_alike (λ i. get_or (take m (drop start us)) (0 + i) 0) (λ i. get_or us (start + i) 0) n at
+    where
+      at : (i : ℕ) → i < n → get_or (take m (drop start us)) (0 + i) 0 ≡ get_or us (start + i) 0
+      at i l =
+          let e : start + (0 + i) ≡ start + i = omega arith in
+          get_or-take m (drop start us) (0 + i) 0 (omega arith) ∙ get_or-drop start us (0 + i) 0 ∙ ap (λ (k : ℕ). get_or us k 0) e
 
   -- the steps of the aisles stand first, then the passages
   lanes_and_passages : (h : House) → held us 0 (places h) ≡ held us 0 (h.aisles * h.deep) + held us (h.aisles * h.deep) (2 * (h.aisles - 1))

@@ -81,9 +81,11 @@ module _ (h : House) (us : List ℕ) (n : ℕ) where
             let closed = subst₂ (λ k z. Progress h us n left steps k p.tail (spot_of p.at) z) none (sym (same_spot (spot_of p.at) (spot_of p.end) e)) now in
             parted_uses h us n closed stuck (omega arith)
 
-    pub passing_ends : {r : Bool} → p.tail ≤ p.top → r ≡ same (spot_of p.at) (spot_of p.end) → Decides h us left steps n r
+    pub passing_empties : p.tail ≤ p.top → (k : ℕ) → k < places h → get_or left k 0 ≡ 0
+    passing_empties met = let none : held left 0 (places h) ≡ 0 = omega (arith, size_held h left, now.room) in held_zero left (places h) none
+
+    pub passing_ends : {r : Bool} → p.tail ≤ p.top → r ≡ same (spot_of p.at) (spot_of p.end) → Decides h us steps n r
     passing_ends {r = true} met is =
         let here = same_spot (spot_of p.at) (spot_of p.end) (sym is) in
-        let none : held left 0 (places h) ≡ 0 = omega (arith, size_held h left, now.room) in
-        (whole_walk h us n (subst (Progress h us n left steps p.top p.tail (spot_of p.at)) (sym here) now) met, held_zero left (places h) none)
+        whole_walk h us n (subst (Progress h us n left steps p.top p.tail (spot_of p.at)) (sym here) now) met
     passing_ends {r = false} met is = passing_strays (nothing_here h us n now met) (sym is)

@@ -14,9 +14,12 @@ use Rattle.euler.specs.declared.pass.Pass.{Pass}
 abbrev pub begun : ℕ → Pass
 begun n = record { top = 0; tail = n; at = record { aisle = 0; depth = 0 }; end = record { aisle = 0; depth = 0 } }
 
+abbrev pub advanced : Pass → code.Spot → Pass
+advanced p to = record { top = p.top + 1; tail = p.tail; at = to; end = p.end }
+
 -- so many steps on, to a spot
-abbrev pub advanced : Pass → ℕ → code.Spot → Pass
-advanced p long to = record { top = p.top + long; tail = p.tail; at = to; end = p.end }
+abbrev pub advanced_by : Pass → ℕ → code.Spot → Pass
+advanced_by p long to = record { top = p.top + long; tail = p.tail; at = to; end = p.end }
 
 abbrev pub retreated : Pass → code.Spot → Pass
 retreated p from = record { top = p.top - 1; tail = p.tail - 1; at = from; end = from }
@@ -68,10 +71,10 @@ pub record Closes (h : House) (us steps : List ℕ) (n : ℕ) : Type 0 where
   pub written : steps_of walk ≡ take n steps
   pub uses : (e : Edge) → In h e → counted h walk e ≡ held_in h us e
 
--- a pass tells of uses whether they are round, and uses them up if they are
-abbrev pub Decides : House → List ℕ → List ℕ → List ℕ → ℕ → Bool → Type 0
-Decides h us us' steps n true = Closes h us steps n × ((k : ℕ) → k < places h → slice_index us' k ≡ 0)
-Decides h us us' steps n false = Round h [] (uses_in h us) → ⊥
+-- a pass tells of uses whether they are round
+abbrev pub Decides : House → List ℕ → List ℕ → ℕ → Bool → Type 0
+Decides h us steps n true = Closes h us steps n
+Decides h us steps n false = Round h [] (uses_in h us) → ⊥
 
 -- a closed walk whose steps are written first, and whose uses are used up
 pub record Settled (h : House) (us us' steps steps' : List ℕ) (n : ℕ) : Type 0 where

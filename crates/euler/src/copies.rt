@@ -36,19 +36,19 @@ fn settle(
     uses: &mut [u8],
     steps: &mut [u8],
     n: usize,
-    kept: &mut [u8],
+    left: &mut [u8],
     way: &mut [u8],
 ) -> bool
     requires room { places (house_of house) ≤ length uses.old }
     requires total { n ≡ count_of (house_of house) uses.old }
     requires fits { n ≤ length steps.old }
-    requires copies { (places (house_of house) ≤ length kept.old) × (n ≤ length way.old) }
+    requires copies { (places (house_of house) ≤ length left.old) × (n ≤ length way.old) }
     ensures { Settles (house_of house) uses.old uses.new steps.old steps.new n result }
 {
     let places = places(house);
-    copy(uses, places, kept);
+    copy(uses, places, left);
     if !trace(house, uses, way, n) {
-        copy(kept, places, uses);
+        copy(left, places, uses);
         return false;
     }
     copy(way, n, steps);

@@ -14,16 +14,24 @@ pub(crate) fn places(house: House) -> usize
     house.aisles as usize * house.deep as usize + 2 * (house.aisles as usize - 1)
 }
 
-// The uses at so many places together.
-pub(crate) fn total(uses: &[u8], start: usize, count: usize) -> usize
+// The uses at the first n places together.
+pub(crate) fn total(uses: &[u8], n: usize) -> usize
+    requires { (n ≤ length uses.now) × (n ≤ 12926) }
+    ensures { result ≡ held uses.now 0 n }
+{
+    let mut sum = 0;
+    for i in 0..n {
+        sum += uses[i] as usize;
+    }
+    sum
+}
+
+// The uses at so many places from `start` on together.
+pub(crate) fn total_from(uses: &[u8], start: usize, count: usize) -> usize
     requires { (start + count ≤ length uses.now) × (count ≤ 12926) }
     ensures { result ≡ held uses.now start count }
 {
-    let mut sum = 0;
-    for i in 0..count {
-        sum += uses[start + i] as usize;
-    }
-    sum
+    total(&uses[start..], count)
 }
 
 // Copies the first n bytes.

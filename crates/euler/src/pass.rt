@@ -1,8 +1,10 @@
-// The state of the walk, and its turns: some steps on, and one step back.
+// The state of the walk, and its turns: one step on, a run of steps on, and one step back.
 ghost use Rattle.std.specs.Prelude.{◌≡◌, ◌+◌, ◌-◌, ◌<◌, ◌≤◌, length, slice_index, slice_set};
 ghost use Rattle.house.specs.Reading.{spot_of};
-ghost use Rattle.euler.specs.Passing.{begun, advanced, retreated, origin};
+ghost use Rattle.walk.specs.Codes.{byte_of};
+ghost use Rattle.euler.specs.Passing.{begun, advanced, advanced_by, retreated, origin};
 
+use crate::choice::Onward;
 use house::Spot;
 
 // The steps below `top` are the stack, those of a walk from the desk to the spot `at`.
@@ -28,10 +30,33 @@ pub(crate) fn begin(n: usize) -> Pass
     }
 }
 
+// Writes one use down.
+pub(crate) fn take(left: &mut [u8], entry: usize)
+    requires { (entry < length left.old) × (0 < slice_index left.old entry) }
+    ensures { left.new ≡ slice_set left.old entry (slice_index left.old entry - 1) }
+{
+    left[entry] -= 1;
+}
+
+// One step on: it goes onto the stack.
+pub(crate) fn advance(pass: Pass, onward: Onward, steps: &mut [u8]) -> Pass
+    requires { pass.top < length steps.old }
+    ensures is { result ≡ advanced pass onward.to }
+    ensures written { steps.new ≡ slice_set steps.old pass.top (byte_of onward.step) }
+{
+    steps[pass.top] = onward.step.byte();
+    Pass {
+        top: pass.top + 1,
+        tail: pass.tail,
+        at: onward.to,
+        end: pass.end,
+    }
+}
+
 // So many steps on, to a spot: they go onto the stack.
-pub(crate) fn advance(pass: Pass, long: usize, to: Spot) -> Pass
+pub(crate) fn advance_by(pass: Pass, long: usize, to: Spot) -> Pass
     requires { pass.top + long ≤ pass.tail }
-    ensures { result ≡ advanced pass long to }
+    ensures { result ≡ advanced_by pass long to }
 {
     Pass {
         top: pass.top + long,

@@ -6,7 +6,7 @@ ghost use Rattle.uses.specs.Uses.{cost};
 ghost use Rattle.euler.specs.Walking.{count_of, Measures};
 
 use crate::answer::Walked;
-use crate::memory::total;
+use crate::memory::total_from;
 use house::{House, Memory, Refusal};
 use uses::cost;
 
@@ -36,6 +36,6 @@ fn count(house: House, uses: &[u8], worth: u32) -> usize
     ensures { result ≡ count_of (house_of house) uses.now }
 {
     let lanes = house.aisles as usize * house.deep as usize;
-    let passages = total(uses, lanes, 2 * (house.aisles as usize - 1));
+    let passages = total_from(uses, lanes, 2 * (house.aisles as usize - 1));
     worth as usize - (house.apart as usize - 1) * passages
 }

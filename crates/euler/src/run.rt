@@ -8,7 +8,7 @@ ghost use Rattle.euler.specs.Choosing.{Opens};
 ghost use Rattle.euler.specs.Passing.{filled, Ran};
 
 use crate::choice::Onward;
-use crate::pass::{Pass, advance};
+use crate::pass::{Pass, advance, advance_by, take};
 use crate::stretch::{stop_after, stop_before};
 use house::{House, Spot};
 use walk::Step;
@@ -31,9 +31,8 @@ pub(crate) fn run(
         Step::Deeper => deeper(house, pass, left, steps),
         Step::Back => shallower(house, pass, left, steps),
         _ => {
-            wear(left, onward.entry, 1);
-            write(steps, pass.top, 1, onward.step.byte());
-            advance(pass, 1, onward.to)
+            take(left, onward.entry);
+            advance(pass, onward, steps)
         }
     }
 }
@@ -52,7 +51,7 @@ fn deeper(house: House, pass: Pass, left: &mut [u8], steps: &mut [u8]) -> Pass
     wear(left, start, long);
     write(steps, pass.top, long, 0);
     let depth = pass.at.depth + long as u8;
-    advance(
+    advance_by(
         pass,
         long,
         Spot {
@@ -77,7 +76,7 @@ fn shallower(house: House, pass: Pass, left: &mut [u8], steps: &mut [u8]) -> Pas
     wear(left, stop, long);
     write(steps, pass.top, long, 1);
     let depth = pass.at.depth - long as u8;
-    advance(
+    advance_by(
         pass,
         long,
         Spot {

@@ -1,5 +1,5 @@
 // One pass over uses makes a walk of them (Hierholzer's algorithm).
-ghost use Rattle.std.specs.Prelude.{◌≡◌, ℕ, ◌≤◌, length, slice_index};
+ghost use Rattle.std.specs.Prelude.{◌≡◌, ℕ, ◌<◌, ◌≤◌, true, length, slice_index};
 ghost use Rattle.house.specs.Reading.{house_of, spot_of};
 ghost use Rattle.walk.specs.Checking.{same};
 ghost use Rattle.uses.specs.Held.{held};
@@ -18,7 +18,8 @@ pub(crate) fn trace(house: House, left: &mut [u8], steps: &mut [u8], n: usize) -
     requires places { places (house_of house) ≤ length left.old }
     requires total { n ≡ held left.old 0 (places (house_of house)) }
     requires fits { n ≤ length steps.old }
-    ensures decides { Decides (house_of house) left.old left.new steps.new n result }
+    ensures decides { Decides (house_of house) left.old steps.new n result }
+    ensures used_up { result ≡ true → (k : ℕ) → k < places (house_of house) → slice_index left.new k ≡ 0 }
     ensures beyond { (k : ℕ) → places (house_of house) ≤ k → slice_index left.new k ≡ slice_index left.old k }
 {
     let mut pass = begin(n);

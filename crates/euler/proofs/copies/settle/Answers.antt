@@ -13,10 +13,9 @@ returns-then-not-trace c = (
 
 pub returns : goal.returns
 returns c =
-    let (closes, used_up) = c.if-not-trace.ensures.decides in
     record {
-      closes = closes_copied _ _ _ _ _ (omega arith) (omega arith) c.copy-2.ensures.copied closes;
+      closes = closes_copied _ _ _ _ _ (omega arith) (omega arith) c.copy-2.ensures.copied c.if-not-trace.ensures.decides;
       kept = c.copy-2.ensures.kept;
-      used_up = used_up;
+      used_up = c.if-not-trace.ensures.used_up refl;
       beyond = c.if-not-trace.ensures.beyond;
     }

@@ -3,4 +3,4 @@ use Rattle.uses.specs.Held.{held}
 use Rattle.euler.proofs.memory.total.Given as goal
 
 abbrev pub invariant-loop-i : goal.invariant-loop-i
-invariant-loop-i l = (l.sum ≡ held l.uses l.start l.i) × (l.sum ≤ 255 * l.i)
+invariant-loop-i l = (l.sum ≡ held l.uses 0 l.i) × (l.sum ≤ 255 * l.i)

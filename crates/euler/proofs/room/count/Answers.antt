@@ -4,18 +4,18 @@ use Rattle.uses.proofs.Places.{places_few}
 use Rattle.euler.proofs.Total.{count_of_cost}
 use Rattle.euler.proofs.room.count.Goals as goal
 
-pub total-passages-requires : goal.total-passages-requires
-total-passages-requires c =
+pub total_from-passages-requires : goal.total_from-passages-requires
+total_from-passages-requires c =
     let few = places_few (house_of c.args.house) (omega arith) (omega arith) in (omega arith, omega arith)
 
 pub overflow_mul-result : goal.overflow_mul-result
 overflow_mul-result c =
-    omega (arith, count_of_cost c.args.uses.now (house_of c.args.house) c.total-passages.result (omega arith) c.total-passages.ensures)
+    omega (arith, count_of_cost c.args.uses.now (house_of c.args.house) c.total_from-passages.result (omega arith) c.total_from-passages.ensures)
 
 pub overflow_sub-result-2 : goal.overflow_sub-result-2
 overflow_sub-result-2 c =
-    omega (arith, count_of_cost c.args.uses.now (house_of c.args.house) c.total-passages.result (omega arith) c.total-passages.ensures)
+    omega (arith, count_of_cost c.args.uses.now (house_of c.args.house) c.total_from-passages.result (omega arith) c.total_from-passages.ensures)
 
 pub returns : goal.returns
 returns c =
-    omega (arith, count_of_cost c.args.uses.now (house_of c.args.house) c.total-passages.result (omega arith) c.total-passages.ensures)
+    omega (arith, count_of_cost c.args.uses.now (house_of c.args.house) c.total_from-passages.result (omega arith) c.total_from-passages.ensures)

@@ -32,4 +32,4 @@ returns c =
     refl
     (worn_forward start long (omega arith) c.wear.ensures.worn c.wear.ensures.before c.wear.ensures.beyond)
     c.write.ensures
-    c.advance.ensures
+    c.advance_by.ensures

@@ -1,13 +1,15 @@
-use Rattle.std.proofs.Common.{refl, arith}
-use Rattle.euler.proofs.Lanes.{leads_once, worn_forward, ran_by}
+use Rattle.std.proofs.Common.{refl, ◌∙◌, sym, arith}
+use Rattle.walk.specs.Codes.{byte_of}
+use Rattle.euler.proofs.Lanes.{leads_once, worn_once, ran_by}
+use Rattle.euler.proofs.Running.{filled_once}
 use Rattle.euler.proofs.run.run.Goals as goal
 
 pub returns-in_default : goal.returns-in_default
 returns-in_default c =
     ran_by (omega arith) (omega arith)
-    (leads_once c.requires.opens c.byte.ensures)
+    (leads_once c.requires.opens refl)
     refl
     refl
-    (worn_forward c.args.onward.entry 1 (omega arith) c.wear.ensures.worn c.wear.ensures.before c.wear.ensures.beyond)
-    c.write.ensures
-    c.advance.ensures
+    (worn_once c.args.onward.entry (omega (arith, (c.requires.opens.seen.stays c.requires.inside).0)) c.take.ensures)
+    (c.advance.ensures.written ∙ sym (filled_once c.args.steps.now c.args.pass.top (byte_of c.args.onward.step)))
+    c.advance.ensures.is

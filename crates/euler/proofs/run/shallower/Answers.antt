@@ -33,4 +33,4 @@ returns c =
     refl
     (worn_backward stop long (omega arith) c.wear.ensures.worn c.wear.ensures.before c.wear.ensures.beyond end (omega arith))
     c.write.ensures
-    c.advance.ensures
+    c.advance_by.ensures

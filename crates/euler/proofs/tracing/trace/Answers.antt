@@ -1,5 +1,5 @@
 use Rattle.std.proofs.Common.{sym, ◌∙◌, inl, inr, arith}
-use Rattle.euler.proofs.Turns.{passing_none, passing_ran, passing_off, passing_fails, passing_ends}
+use Rattle.euler.proofs.Turns.{passing_none, passing_ran, passing_off, passing_fails, passing_empties, passing_ends}
 use Rattle.euler.proofs.tracing.trace.Goals as goal
 use Rattle.euler.proofs.tracing.trace.Goals.{then-pass-eq0-via-then-pass-eq0, then-pass-eq0-via-else-pass-eq0+then-not-same}
 
@@ -18,6 +18,7 @@ returns-then-pass-eq0 c =
             | then-pass-eq0-via-then-pass-eq0 w ↦ inl w.if-pass-eq0.true
             | then-pass-eq0-via-else-pass-eq0+then-not-same w ↦ inr (sym w.same.ensures ∙ w.if-not-same.true)
           ]);
+      used_up = λ no k l. cc;
       beyond = c.loop-pass.invariant.beyond;
     }
 
@@ -28,4 +29,8 @@ loop-pass-preserved c =
 
 pub returns : goal.returns
 returns c =
-    record { decides = passing_ends _ _ _ c.loop-pass.invariant (omega arith) c.same-2.ensures; beyond = c.loop-pass.invariant.beyond }
+    record {
+      decides = passing_ends _ _ _ c.loop-pass.invariant (omega arith) c.same-2.ensures;
+      used_up = λ yes. passing_empties _ _ _ c.loop-pass.invariant (omega arith);
+      beyond = c.loop-pass.invariant.beyond;
+    }
