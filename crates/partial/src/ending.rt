@@ -1,6 +1,6 @@
 // The class in which the shortest whole tour ends.
 ghost use Rattle.std.specs.Prelude.{◌≡◌, ◌<◌, ◌≤◌, length};
-ghost use Rattle.partial.specs.Ending.{shorter, ending};
+ghost use Rattle.partial.specs.Ending.{Shorter, shorter, Ends, ending};
 ghost use Rattle.classes.specs.Values.{class_of};
 
 use crate::table::cell;
@@ -9,7 +9,8 @@ use classes::Class;
 // The one of two classes with the shorter partial tour, the first if they are as long.
 fn shorter(lengths: &[u32], aisle: usize, first: Class, second: Class) -> Class
     requires { (448 ≤ length lengths.now) × (aisle < 64) }
-    ensures { class_of result ≡ shorter lengths.now aisle (class_of first) (class_of second) }
+    ensures shorter { Shorter lengths.now aisle (class_of first) (class_of second) (class_of result) }
+    ensures chosen { class_of result ≡ shorter lengths.now aisle (class_of first) (class_of second) }
 {
     if lengths[cell(aisle, second)] < lengths[cell(aisle, first)] {
         second
@@ -21,7 +22,8 @@ fn shorter(lengths: &[u32], aisle: usize, first: Class, second: Class) -> Class
 // Of the classes that are whole tours the one with the shortest in the row of an aisle.
 pub(crate) fn ending(lengths: &[u32], aisle: usize) -> Class
     requires { (448 ≤ length lengths.now) × (aisle < 64) }
-    ensures { class_of result ≡ ending lengths.now aisle }
+    ensures ends { Ends lengths.now aisle (class_of result) }
+    ensures chosen { class_of result ≡ ending lengths.now aisle }
 {
     let class = shorter(lengths, aisle, Class::Closed, Class::EvenFront);
     let class = shorter(lengths, aisle, class, Class::EvenOne);

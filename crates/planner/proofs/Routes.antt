@@ -71,7 +71,7 @@ pub chosen_laid :
     (h : House) (ss : List Spot) (lengths came lengths' came' choices us us' : List ℕ) → Chosen h ss (tables lengths came) (tables lengths' came') choices →
     Laid h (at choices) (part_at ss) h.aisles us us' → BestLaid h ss lengths came lengths' came' us us'
 chosen_laid h ss lengths came lengths' came' choices us us' made laid =
-    record { table = made.table; ends = made.ends; lays = λ e i. laid.laid e i (before e i) ∙ alike e i; beyond = laid.beyond }
+    record { table = made.table; end = ending lengths' (h.aisles - 1); ends = made.ends; lays = λ e i. laid.laid e i (before e i) ∙ alike e i; beyond = laid.beyond }
   where
     before : (e : Edge) → In h e → Before h.aisles e
     before (lane a y) i = i.0
@@ -111,12 +111,12 @@ module _ (h : House) (bounds : Bounds h) (picks : List Spot) (sound : Sound h pi
 
   pub best_round : Round h picks (uses_in h us₁)
   best_round =
-      round_of_laid h picks (part_at (sorted picks)) lengths' came' sound by_aisle table.starts table.goes table.came_from (ending lengths' (h.aisles - 1)) laid.ends us₁ laid.lays
+      round_of_laid h picks (part_at (sorted picks)) lengths' came' sound by_aisle table.starts table.goes table.came_from laid.end laid.ends us₁ laid.lays
 
   few : count_of h us₁ ≤ 25852
   few =
       count_few h us₁ bounds.few_aisles bounds.little_depth
-      (λ e i. omega (arith, laid.lays e i, laid_small h (chosen h.aisles came' (ending lengths' (h.aisles - 1))) (part_at (sorted picks)) e))
+      (λ e i. omega (arith, laid.lays e i, laid_small h (chosen h.aisles came' laid.end) (part_at (sorted picks)) e))
 
   pub best_room : (steps : List ℕ) → 25852 ≤ length steps → 12926 ≤ length us₁ → walk_rule h us₁ (length steps) ≡ None
   best_room steps l m = room_to_walk h us₁ steps l m few
@@ -135,7 +135,6 @@ module _ (h : House) (bounds : Bounds h) (picks : List Spot) (sound : Sound h pi
         tour = t.tour;
         shortest = best.shortest;
         long = t.long;
-        number = sym (length-take-le w.steps steps' (omega (arith, few, t.number))) ∙ ap length t.written;
         written = t.written;
         kept = t.kept;
         used_up = t.used_up;
@@ -147,9 +146,9 @@ module _ (h : House) (bounds : Bounds h) (picks : List Spot) (sound : Sound h pi
       t : Tours h picks us₁ us' steps steps' w
       t = walks.1.1 picks best_round
 
-      best : ShortestTour h picks t.tour (length_at lengths' (h.aisles - 1) (ending lengths' (h.aisles - 1)))
+      best : ShortestTour h picks t.tour (length_at lengths' (h.aisles - 1) laid.end)
       best =
-          shortest_of_laid h picks (part_at (sorted picks)) lengths' came' sound by_aisle table.starts table.goes table.came_from (ending lengths' (h.aisles - 1)) laid.ends us₁ laid.lays
+          shortest_of_laid h picks (part_at (sorted picks)) lengths' came' sound by_aisle table.starts table.goes table.came_from laid.end laid.ends us₁ laid.lays
           t.tour t.uses
 
 -- what sorting and laying down come to, as the code has them

@@ -1,11 +1,11 @@
 -- What the planner answers, and what the memory that it was lent holds then. Assumes nothing: these are definitions.
-use Rattle.std.specs.Prelude.{◌≡◌, ℕ, ◌-◌, ◌<◌, ◌≤◌, List, length, take, Some, None, Ok, Err, Option, Result, nat_le, slice_index}
+use Rattle.std.specs.Prelude.{◌≡◌, ℕ, ◌-◌, ◌<◌, ◌≤◌, ◌&&◌, List, length, take, Some, None, Ok, Err, Option, Result, nat_le, slice_index}
 use Rattle.house.specs.House.{House, Spot}
 use Rattle.house.specs.Bounds.{picks_of}
 use Rattle.house.specs.Reading.{house_in, list_in, refusal_of}
 use Rattle.house.specs.Rules.{or_else, unless}
 use Rattle.house.specs.declared.layout.Spot.{Spot as Entry}
-use Rattle.house.specs.declared.refusal.Memory.TheVariants.{Picks, Steps, Uses}
+use Rattle.house.specs.declared.refusal.Memory.TheVariants.{Picks, Tables as TableMemory, Steps, Uses}
 use Rattle.house.specs.declared.refusal.Refusal.{Refusal}
 use Rattle.house.specs.declared.refusal.Refusal.TheVariants.{Short}
 use Rattle.walk.specs.Walk.{Tour, steps_of, length_of, Shortest}
@@ -14,8 +14,8 @@ use Rattle.uses.specs.Layout.{places, held_in}
 use Rattle.aisle.specs.Order.{sorted}
 use Rattle.aisle.specs.Sorting.{Holds}
 use Rattle.euler.specs.declared.answer.Walked.{Walked}
-use Rattle.partial.specs.Choosing.{table_rule}
-use Rattle.partial.specs.Ending.{ending, Ends}
+use Rattle.classes.specs.Classes.{Class}
+use Rattle.partial.specs.Ending.{Ends}
 use Rattle.partial.specs.Filling.{filled}
 use Rattle.planner.specs.Laying.{laid_by, part_at}
 use Rattle.partial.specs.Table.{tables}
@@ -36,17 +36,17 @@ lent picks lengths came steps uses = record { picks = picks; lengths = lengths; 
 abbrev pub room_for : ℕ → ℕ → ℕ → ℕ → ℕ → Option Refusal
 room_for picks lengths came steps uses =
     or_else (unless (nat_le 512 picks) (Short Picks))
-    (or_else (table_rule lengths came) (or_else (unless (nat_le 25852 steps) (Short Steps)) (unless (nat_le 12926 uses) (Short Uses))))
+    (or_else (unless (nat_le 448 lengths && nat_le 448 came) (Short TableMemory)) (or_else (unless (nat_le 25852 steps) (Short Steps)) (unless (nat_le 12926 uses) (Short Uses))))
 
 abbrev pub memory_rule : Lent → Option Refusal
 memory_rule l = room_for (length l.picks) (length l.lengths) (length l.came) (length l.steps) (length l.uses)
 
--- the uses of a shortest plan are laid down: the table is filled, the class of whole tours that is taken in its last row is shortest,
--- and the choices read back from there give the uses
+-- the uses of a shortest plan are laid down: the table is filled, a class of whole tours in its last row is shortest, and the choices read back from it give the uses
 pub record BestLaid (h : House) (ss : List Spot) (lengths came lengths' came' us us' : List ℕ) : Type 0 where
   pub table : tables lengths' came' ≡ filled h h.aisles 0 ss (tables lengths came)
-  pub ends : Ends lengths' (h.aisles - 1) (ending lengths' (h.aisles - 1))
-  pub lays : (e : Edge) → In h e → held_in h us' e ≡ laid_by h (chosen h.aisles came' (ending lengths' (h.aisles - 1))) (part_at ss) e
+  pub end : Class
+  pub ends : Ends lengths' (h.aisles - 1) end
+  pub lays : (e : Edge) → In h e → held_in h us' e ≡ laid_by h (chosen h.aisles came' end) (part_at ss) e
   pub beyond : (k : ℕ) → places h ≤ k → slice_index us' k ≡ slice_index us k
 
 -- a shortest tour of the house past the picks, its steps written first; and what all memory holds then
@@ -54,13 +54,17 @@ pub record Routed (h : House) (picks : List Spot) (was is : Lent) (w : Walked) :
   pub tour : Tour h picks
   pub shortest : Shortest h picks tour
   pub long : w.length ≡ length_of tour
-  pub number : w.steps ≡ length (steps_of tour.walk)
   pub written : take w.steps is.steps ≡ steps_of tour.walk
   pub kept : (k : ℕ) → w.steps ≤ k → slice_index is.steps k ≡ slice_index was.steps k
   pub used_up : (k : ℕ) → k < places h → slice_index is.uses k ≡ 0
   pub beyond : (k : ℕ) → places h ≤ k → slice_index is.uses k ≡ slice_index was.uses k
   pub in_order : Holds (length picks) (sorted picks) was.picks is.picks
   pub table : tables is.lengths is.came ≡ filled h h.aisles 0 (sorted picks) (tables was.lengths was.came)
+
+-- of the steps that are told each was written: there is room for as many
+abbrev pub Written : List ℕ → Result Walked Refusal → Type 0
+Written steps (Ok w) = w.steps ≤ length steps
+Written steps (Err e) = Unit
 
 -- the memory is held to its sizes before any byte is looked at; a refusal changes nothing
 abbrev pub Plans : List ℕ → Lent → Lent → Result Walked Refusal → Type 0

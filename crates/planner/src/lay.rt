@@ -7,7 +7,7 @@ ghost use Rattle.aisle.specs.Reach.{depths_of};
 ghost use Rattle.aisle.specs.Values.{use_of, spots_of};
 ghost use Rattle.classes.specs.Classes.{passage_front, passage_back};
 ghost use Rattle.classes.specs.Values.{passage_of};
-ghost use Rattle.planner.specs.Laying.{Painted, reached, Adds, Laid, at, part_at};
+ghost use Rattle.planner.specs.Laying.{steps_or_none, Painted, reached, Adds, Laid, at, part_at};
 
 use aisle::{AisleUse, Gap, cheapest_past, part_end};
 use classes::Passage;
@@ -35,16 +35,23 @@ fn paint_gap(uses: &mut [u8], start: usize, deep: u8, gap: Gap)
     fill_run(uses, start + lo as usize, hi.saturating_sub(lo) as usize, 0);
 }
 
-// The uses of an aisle, whose entries begin at `start`, in runs of one value.
+fn step_uses(way: Option<AisleUse>, depth: u8) -> u8
+    ensures { result ≡ steps_or_none (option_map use_of way) depth }
+{
+    match way {
+        Some(way) => way.uses_of_step(depth),
+        None => 0,
+    }
+}
+
+// The uses of an aisle, whose entries begin at `start`, in runs of one value: but for a gap all steps are used alike.
 fn paint(uses: &mut [u8], start: usize, deep: u8, way: Option<AisleUse>)
     requires { start + deep ≤ length uses.old }
     ensures { Painted start deep (option_map use_of way) uses.old uses.new }
 {
     match way {
-        None => fill_run(uses, start, deep as usize, 0),
-        Some(AisleUse::Once) => fill_run(uses, start, deep as usize, 1),
-        Some(AisleUse::Twice) => fill_run(uses, start, deep as usize, 2),
         Some(AisleUse::Leaving(gap)) => paint_gap(uses, start, deep, gap),
+        _ => fill_run(uses, start, deep as usize, step_uses(way, 0)),
     }
 }
 

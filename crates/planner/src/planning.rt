@@ -3,7 +3,7 @@ ghost use Rattle.std.specs.Prelude.{◌≡◌, ◌≤◌, length, Some, None, Ma
 ghost use Rattle.house.specs.Bounds.{picks_of};
 ghost use Rattle.house.specs.Reading.{house_of};
 ghost use Rattle.aisle.specs.Values.{spots_of};
-ghost use Rattle.planner.specs.Planning.{room_for, BestLaid, Routed, Plans, lent};
+ghost use Rattle.planner.specs.Planning.{room_for, BestLaid, Routed, Written, Plans, lent};
 
 use crate::lay::lay;
 use aisle::sort_picks;
@@ -57,7 +57,8 @@ fn route(
     requires picks { 512 ≤ length picks.old }
     requires tables { (448 ≤ length lengths.old) × (448 ≤ length came.old) }
     requires walk { (25852 ≤ length steps.old) × (12926 ≤ length uses.old) }
-    ensures { Routed (house_of list.entry.house) (picks_of list.entry.bytes.now) (lent picks.old lengths.old came.old steps.old uses.old) (lent picks.new lengths.new came.new steps.new uses.new) result }
+    ensures routed { Routed (house_of list.entry.house) (picks_of list.entry.bytes.now) (lent picks.old lengths.old came.old steps.old uses.old) (lent picks.new lengths.new came.new steps.new uses.new) result }
+    ensures written { result.steps ≤ length steps.new }
 {
     let n = sort_picks(list, picks).unwrap();
     lay_best(list.house, &picks[0..n], lengths, came, uses);
@@ -73,7 +74,8 @@ pub fn plan(
     steps: &mut [u8],
     uses: &mut [u8],
 ) -> Result<Walked, Refusal>
-    ensures { Plans file.now (lent picks.old lengths.old came.old steps.old uses.old) (lent picks.new lengths.new came.new steps.new uses.new) result }
+    ensures plans { Plans file.now (lent picks.old lengths.old came.old steps.old uses.old) (lent picks.new lengths.new came.new steps.new uses.new) result }
+    ensures written { Written steps.new result }
 {
     let room = enough(
         picks.len(),

@@ -10,6 +10,6 @@ returns c =
     record {
       table = simp unary_clauses at c.fill.ensures;
       ends = ending_ends _ _;
-      each = λ a l. c.trace.ensures.each a l ∙ ap (λ (e : Class). chosen c.args.house.aisles c.fill.new.came e a) c.ending-end.ensures;
+      each = λ a l. c.trace.ensures.each a l ∙ ap (λ (e : Class). chosen c.args.house.aisles c.fill.new.came e a) c.ending-end.ensures.chosen;
       others = c.trace.ensures.beyond;
     }

@@ -18,8 +18,8 @@ unwrap-requires c =
     (fits_sound h c.args.list.bytes.now (bounds c.args.list.house) c.args.list.in_aisles c.args.list.on_shelves) _ _ _ _ _ _ c.requires.tables.0
     c.requires.tables.1 f.laid _ _ _ _ (omega arith) (omega arith) c.walk_uses.ensures
 
-pub returns : goal.returns
-returns c =
+pub returns-clause-routed : goal.returns-clause-routed
+returns-clause-routed c =
     let h = house_of c.args.list.house in
     let f = facts h (picks_of c.args.list.bytes.now) _ _ _ _ _ _ _ _ c.unwrap-n.result _ c.sort_picks.ensures c.unwrap-n.ensures c.lay_best.ensures in
     routed h (bounds c.args.list.house) (picks_of c.args.list.bytes.now)
