@@ -4,6 +4,7 @@ use native.Mathlib.Decide.{dec_le}
 use Rattle.std.proofs.lemmas.Bool.Decides.{nat_tests}
 use Rattle.uses.specs.Uses.{pick, span}
 use Rattle.aisle.specs.Costs.{Use, once, twice, leaving, hole, use_cost}
+use Rattle.aisle.specs.Values.{total_of}
 use Rattle.aisle.proofs.Holes.{span_hole}
 use Rattle.aisle.proofs.UseCosts.{cost_once, cost_twice}
 
@@ -25,12 +26,6 @@ cost_around lo hi deep =
       | yes l ↦ omega (arith, span_hole lo hi l deep)
       | no l ↦ omega (arith, span_whole lo hi (omega arith) deep)
     ]
-
--- the cost of a use by the steps that it leaves out
-abbrev pub total_of : ℕ → Use → ℕ
-total_of deep once = deep
-total_of deep twice = 2 * deep
-total_of deep (leaving lo hi) = 2 * (deep - (min deep hi - min deep lo))
 
 pub total_is_cost : (deep : ℕ) (u : Use) → total_of deep u ≡ use_cost deep u
 unfolding use_cost

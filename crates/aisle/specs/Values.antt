@@ -1,5 +1,5 @@
 -- What the code's values stand for. Assumes nothing: these are definitions.
-use Rattle.std.specs.Prelude.{◌≡◌, ℕ, List, map, Some, None, Option}
+use Rattle.std.specs.Prelude.{◌≡◌, ℕ, ◌-◌, ◌*◌, min, List, map, Some, None, Option}
 use Rattle.std.specs.Borrow.{Bor}
 use Rattle.house.specs.House as house
 use Rattle.house.specs.Reading.{spot_of}
@@ -39,3 +39,9 @@ reach_of r = record { first = r.first; last = r.last; gap = gap_of r.gap }
 abbrev pub Begins : List ℕ → Option (Reach × Bor (List Spot)) → Type 0
 Begins ds None = reach.reach_in ds ≡ None
 Begins ds (Some p) = reach.reach_in ds ≡ Some (reach.along (reach_of p.0) (reach.depths_of (spots_of p.1.now)))
+
+-- the cost of a use by the steps that it leaves out
+abbrev pub total_of : ℕ → ideal.Use → ℕ
+total_of deep ideal.once = deep
+total_of deep ideal.twice = 2 * deep
+total_of deep (ideal.leaving lo hi) = 2 * (deep - (min deep hi - min deep lo))

@@ -1,7 +1,7 @@
 // How often a use takes each step of its aisle, what it does to the two ends, and what it costs.
 ghost use Rattle.std.specs.Prelude.{◌≡◌, ◌+◌, ◌-◌, ◌*◌, min, ◌&&◌, if◌then◌else◌, nat_le, nat_lt};
 ghost use Rattle.aisle.specs.Costs.{hole, steps_of_use, front_of, back_of, joins, use_cost};
-ghost use Rattle.aisle.specs.Values.{use_of};
+ghost use Rattle.aisle.specs.Values.{use_of, total_of};
 
 use crate::kinds::{AisleUse, Gap};
 
@@ -30,9 +30,9 @@ impl Gap {
 
     // How many of the steps of an aisle lie in the gap.
     fn steps(self, deep: u8) -> u8
-        ensures { result ≡ min deep self.hi - self.lo }
+        ensures { result ≡ min deep self.hi - min deep self.lo }
     {
-        deep.min(self.hi).saturating_sub(self.lo)
+        deep.min(self.hi).saturating_sub(deep.min(self.lo))
     }
 }
 
@@ -81,10 +81,17 @@ impl AisleUse {
         }
     }
 
+    // What it leaves of walking through both ways.
+    fn total(self, deep: u8) -> u16
+        ensures { result ≡ total_of deep (use_of self) }
+    {
+        2 * u16::from(deep) - self.saved(deep)
+    }
+
     // The uses of all steps of an aisle so many steps deep.
     pub fn cost(self, deep: u8) -> u16
         ensures { result ≡ use_cost deep (use_of self) }
     {
-        2 * u16::from(deep) - self.saved(deep)
+        self.total(deep)
     }
 }

@@ -49,10 +49,17 @@ fn least(deep: u8, reach: Option<Reach>, effect: Effect) -> Option<AisleUse>
     cheapest(deep, reach, effect)
 }
 
+// The same in one go over the picks.
+fn chosen(deep: u8, part: &[Spot], effect: Effect) -> Option<AisleUse>
+    ensures { option_map use_of result ≡ best_from deep (reach_in (depths_of (spots_of part.now))) (effect_of effect) }
+{
+    least(deep, Reach::of(part), effect)
+}
+
 // The cheapest use that has the effect: where the picks stand inside the aisle in order of depth, no other use that has it costs less.
 pub fn cheapest_past(deep: u8, part: &[Spot], effect: Effect) -> Option<AisleUse>
     ensures best { option_map use_of result ≡ best deep (depths_of (spots_of part.now)) (effect_of effect) }
     ensures least { Depths deep (depths_of (spots_of part.now)) → LeastUse deep (depths_of (spots_of part.now)) (effect_of effect) (option_map use_of result) }
 {
-    least(deep, Reach::of(part), effect)
+    chosen(deep, part, effect)
 }

@@ -48,7 +48,7 @@ abbrev pub check_command_of : Arg → Arg → Result CheckCommand Misuse
 check_command_of None second = Ok (Check Standard)
 check_command_of (Some name) second = cond (bytes_eq name.now (codes "--help")) (alone second check.Help) (asked Check (source_of (Some name) second))
 
--- the line that tells of a misuse: the words for it, and the option that is unknown
+-- the words for a misuse, and the option that is unknown
 abbrev pub misuse_words : Misuse → List ℕ
 misuse_words (Unknown name) = codes "unknown option "
 misuse_words TooMany = codes "too many arguments"
@@ -57,5 +57,7 @@ abbrev pub misuse_name : Misuse → List ℕ
 misuse_name (Unknown name) = name.now
 misuse_name TooMany = []
 
+-- the line that tells of a misuse
 abbrev pub misuse_line : Misuse → List ℕ
-misuse_line misuse = misuse_words misuse ++ misuse_name misuse
+misuse_line (Unknown name) = codes "unknown option " ++ name.now
+misuse_line TooMany = codes "too many arguments"

@@ -9,31 +9,49 @@ use crate::piece::Piece;
 use crate::pieces::first_piece;
 use house::House;
 use std::alloc::{AllocError, Global};
-use walk::measure;
 
 // A line for each piece of the way, and last its length.
 pub fn way_text(heap: Global, house: House, way: &[u8]) -> Result<String, AllocError>
     ensures { IfOk result (λ s. string_bytes s ≡ way_text (house_of house) way.now) }
 {
-    let mut text = String::new(heap);
-    let length = add_pieces(&mut text, house, way)?;
-    add_length(&mut text, length)?;
+    let mut text = piece_lines(heap, way)?;
+    add_length(&mut text, measure(house, way))?;
     Ok(text)
 }
 
-// Adds the lines of the pieces, and returns the length of the way; what follows the pieces has no line, but may be long.
-fn add_pieces(text: &mut String, house: House, way: &[u8]) -> Result<u128, AllocError>
-    ensures { IfOk result (λ n. (string_bytes text.new ≡ string_bytes text.old ++ piece_lines way.now) × (n ≡ measure (house_of house) way.now)) }
+fn piece_lines(heap: Global, way: &[u8]) -> Result<String, AllocError>
+    ensures { IfOk result (λ s. string_bytes s ≡ piece_lines way.now) }
+{
+    let mut text = String::new(heap);
+    add_pieces(&mut text, way)?;
+    Ok(text)
+}
+
+// Adds the lines of the pieces; what follows the pieces has no line.
+fn add_pieces(text: &mut String, way: &[u8]) -> Result<(), AllocError>
+    ensures { OnOk result (string_bytes text.new ≡ string_bytes text.old ++ piece_lines way.now) }
+{
+    let mut rest = way;
+    while let Some(piece) = first_piece(rest) {
+        add_piece(text, piece)?;
+        let (_, after) = rest.split_at(piece.steps());
+        rest = after;
+    }
+    Ok(())
+}
+
+// The length of a way by its pieces; what follows the pieces may be long too.
+fn measure(house: House, way: &[u8]) -> u128
+    ensures { result ≡ measure (house_of house) way.now }
 {
     let mut length = 0;
     let mut rest = way;
     while let Some(piece) = first_piece(rest) {
-        add_piece(text, piece)?;
         length += piece_length(house, piece);
         let (_, after) = rest.split_at(piece.steps());
         rest = after;
     }
-    Ok(length + measure(house, rest))
+    length + walk::measure(house, rest)
 }
 
 fn piece_length(house: House, piece: Piece) -> u128
@@ -53,7 +71,7 @@ fn add_piece(text: &mut String, piece: Piece) -> Result<(), AllocError>
     text.push_str(piece.words())?;
     text.push(' ')?;
     add_number(text, piece.steps())?;
-    text.push('\n')?;
+    text.push_str("\n")?;
     Ok(())
 }
 

@@ -7,7 +7,7 @@ use crate::piece::Piece;
 
 // The longest front of a way that has one byte only.
 #[derive(Clone, Copy)]
-struct Run {
+struct Stretch {
     byte: u8,
     steps: usize,
 }
@@ -22,21 +22,21 @@ pub fn first_piece(way: &[u8]) -> Option<Piece>
     }
 }
 
-fn first_run(way: &[u8]) -> Option<Run>
+fn first_run(way: &[u8]) -> Option<Stretch>
     ensures { MatchOption result (None ≡ first_of (pieces way.now)) (λ run. piece_at run.byte run.steps ≡ first_of (pieces way.now)) }
 {
     if way.is_empty() {
         return None;
     }
     let byte = way[0];
-    Some(Run {
+    Some(Stretch {
         byte,
-        steps: length_of_run(way, byte),
+        steps: run(way, byte),
     })
 }
 
 // How many bytes at the front of a way are this one.
-fn length_of_run(way: &[u8], byte: u8) -> usize
+fn run(way: &[u8], byte: u8) -> usize
     ensures within { result ≤ length way.now }
     ensures same { (k : ℕ) → k < result → slice_index way.now k ≡ byte }
     ensures stops { result < length way.now → slice_index way.now result ≢ byte }

@@ -1,4 +1,4 @@
-use Rattle.std.proofs.Common.{◌≡◌, ℕ, List, ◌++◌, decimal, ap, ◌∙◌, append_assoc, arith}
+use Rattle.std.proofs.Common.{◌≡◌, ℕ, List, ◌++◌, decimal, ap, ◌∙◌, append_assoc, rules, arith}
 use Rattle.text.proofs.lines.add_piece.Goals as goal
 
 -- four parts of a line, one after the other
@@ -13,6 +13,6 @@ four-parts text {w' = w'} {s' = s'} {d' = d'} {e' = e'} one-is w-is two_is s-is 
 pub returns : goal.returns
 returns c =
     let space = c.in_ok-push.ensures in
-    let newline = c.in_ok-push-2.ensures in
+    let newline = c.in_ok-push_str-2.ensures in
     four-parts _ c.in_ok-push_str.ensures.bytes c.words.ensures space.bytes (space.ascii (omega arith))
-    c.in_ok-add_number.ensures (ap decimal c.steps.ensures) newline.bytes (newline.ascii (omega arith))
+    c.in_ok-add_number.ensures (ap decimal c.steps.ensures) newline.bytes (search rules)

@@ -8,5 +8,5 @@ returns-then-is_empty c = first_of_none c.args.way.now (true-eqb _ 0 c.if-is_emp
 pub returns : goal.returns
 returns c =
     let some = false-eqb _ 0 c.if-is_empty.ensures in
-    let run = c.length_of_run.ensures in
-    first_of_run c.args.way.now c.length_of_run.result (omega arith) run.within run.same run.stops
+    let run = c.run.ensures in
+    first_of_run c.args.way.now c.run.result (omega arith) run.within run.same run.stops

@@ -1,8 +1,8 @@
 use Rattle.std.proofs.Common.{◌≡◌, ℕ, sym, ap, ◌∙◌, arith}
 use Rattle.aisle.specs.Costs.{use_cost}
-use Rattle.aisle.specs.Values.{use_of}
+use Rattle.aisle.specs.Values.{use_of, total_of}
 use Rattle.aisle.specs.declared.kinds.AisleUse.{AisleUse}
-use Rattle.aisle.proofs.CodeCosts.{total_of, total_is_cost}
+use Rattle.aisle.proofs.CodeCosts.{total_is_cost}
 use Rattle.aisle.proofs.kinds.AisleUse.saved.Goals as goal
 
 known-cost : (deep : ℕ) {u v : AisleUse} → u ≡ v → use_cost deep (use_of u) ≡ total_of deep (use_of v)

@@ -1,0 +1,11 @@
+use Rattle.std.proofs.Common.{refl}
+use Rattle.aisle.specs.Reach.{depths_of}
+use Rattle.aisle.specs.Values.{effect_of, spots_of}
+use Rattle.aisle.proofs.Passed.{found_best, found_least}
+use Rattle.aisle.proofs.least.cheapest_past.Goals as goal
+
+pub returns : goal.returns
+returns c =
+    let ds = depths_of (spots_of c.args.part.now) in
+    let e = effect_of c.args.effect in
+    record { best = found_best c.args.deep ds e _ c.chosen.ensures refl; least = found_least c.args.deep ds e _ c.chosen.ensures refl }
