@@ -5,13 +5,13 @@ use Rattle.text.proofs.lines.+add_number.Goals.{then-n-ge10+in_ok-add_number, el
 
 -- the last digit of a number, after the others or alone
 module _ (n : ℕ) (text before after digit : List ℕ) where
-  digit-more :
+  digit_more :
       10 ≤ n → n < 2 ^ 64 → before ≡ text ++ decimal (n / 10) → after ≡ before ++ digit → digit ≡ (48 + n % 10) ∷ [] → after ≡ text ++ decimal n
-  digit-more l k e f g =
+  digit_more l k e f g =
       f ∙ (λ i. e i ++ g i) ∙ append_assoc text (decimal (n / 10)) ((48 + n % 10) ∷ []) ∙ ap (λ (ds : List ℕ). text ++ ds) (sym (decimal_step n l k))
 
-  digit-alone : n < 10 → before ≡ text → after ≡ before ++ digit → digit ≡ (48 + n % 10) ∷ [] → after ≡ text ++ decimal n
-  digit-alone l e f g =
+  digit_alone : n < 10 → before ≡ text → after ≡ before ++ digit → digit ≡ (48 + n % 10) ∷ [] → after ≡ text ++ decimal n
+  digit_alone l e f g =
       let same : 48 + n % 10 ≡ 48 + n = omega arith in
       f ∙ (λ i. e i ++ g i) ∙ ap (λ (d : ℕ). text ++ d ∷ []) same ∙ ap (λ (ds : List ℕ). text ++ ds) (sym (decimal_digit n l))
 
@@ -20,6 +20,6 @@ returns t c =
     let pushed = c.in_ok-push.ensures in
     elim c.if-n-ge10.branch [
       | then-n-ge10+in_ok-add_number w ↦
-          digit-more c.args.n _ _ _ _ (omega arith) (omega arith) (ap string_bytes w.text-is ∙ w.in_ok-add_number.ensures) pushed.bytes (pushed.ascii (omega arith))
-      | else-n-ge10 w ↦ digit-alone c.args.n _ _ _ _ (omega arith) (ap string_bytes w.text-is) pushed.bytes (pushed.ascii (omega arith))
+          digit_more c.args.n _ _ _ _ (omega arith) (omega arith) (ap string_bytes w.text-is ∙ w.in_ok-add_number.ensures) pushed.bytes (pushed.ascii (omega arith))
+      | else-n-ge10 w ↦ digit_alone c.args.n _ _ _ _ (omega arith) (ap string_bytes w.text-is) pushed.bytes (pushed.ascii (omega arith))
     ]
