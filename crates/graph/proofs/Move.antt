@@ -4,7 +4,7 @@ use mathlib.Core.Logic.{◌⊎◌, inl, inr, ◌↔◌, ◌≢◌, Ne-symm, ite,
 use Prim.Native.Nat.{ℕ, ◌+◌, ◌%◌, ◌<◌}
 use native.Mathlib.Omega.{arith}
 use native.Mathlib.Decide.{dec_lt}
-use Rattle.graph.specs.Graph.{Graph, Laws, Ends, Linked, here}
+use Rattle.graph.specs.Graph.{Graph, Laws, Ends, Linked}
 use Rattle.graph.proofs.Sums.{degree_at_start, degree_at_end}
 use Rattle.graph.proofs.Links.{maps, linked_more, linked_by, linked_trans, linked_sym, linked_same, alone}
 use Rattle.graph.proofs.Class.{SameClass}
