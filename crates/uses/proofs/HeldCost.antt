@@ -1,7 +1,7 @@
 -- The cost of the uses in a slice: the steps of all aisles stand first and together, then the passages. Assumes nothing.
 use Rattle.std.proofs.Common.{◌≡◌, ℕ, zero, suc, ◌+◌, ◌-◌, ◌*◌, List, get_or, sym, refl, ap, ◌∙◌, suc-mul, add-one, arith}
 use Rattle.house.specs.House.{House}
-use Rattle.uses.specs.Held.{held, aisles_cost, passages_cost}
+use Rattle.uses.specs.Held.{held, cost_in, aisles_cost, passages_cost}
 use Rattle.uses.specs.Layout.{uses_in}
 use Rattle.uses.specs.Uses.{span, cost}
 use Rattle.uses.proofs.Span.{span_sum}
@@ -55,7 +55,7 @@ module _ (us : List ℕ) where
   unfolding held
   held_lanes h = refl
 
-  pub cost_held : (h : House) → aisles_cost h us + passages_cost h us ≡ cost h (uses_in h us)
+  pub cost_held : (h : House) → cost_in h us ≡ cost h (uses_in h us)
   unfolding cost
   cost_held h =
       let start = h.aisles * h.deep in
@@ -66,3 +66,6 @@ module _ (us : List ℕ) where
         held_lanes h ∙ held_aisles h.deep h.aisles,
         ap (λ (k : ℕ). h.apart * k) (held_sides start n ∙ sym (held_both start n n) ∙ ap (held us start) twice),
       )
+
+  pub costs_held : (h : House) → aisles_cost h us + passages_cost h us ≡ cost h (uses_in h us)
+  costs_held h = cost_held h

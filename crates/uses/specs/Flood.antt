@@ -1,6 +1,6 @@
 -- A flood over what is used: the spots that it has seen, and those among them that wait on a stack to be left.
 -- Assumes nothing: these are definitions.
-use Rattle.std.specs.Prelude.{◌≡◌, ℕ, suc, ◌+◌, ◌-◌, ◌<◌, Bool, true, false, cond, not, ◌&&◌, List, [], ◌∷◌, set, replicate, Some, None, Decides, Option, nat_lt, slice_index_or, slice_set}
+use Rattle.std.specs.Prelude.{◌≡◌, ℕ, suc, ◌+◌, ◌-◌, ◌<◌, Bool, true, false, cond, not, ◌&&◌, List, [], ◌∷◌, replicate, Some, None, Decides, Option, nat_lt, slice_index_or, slice_set}
 use Rattle.house.specs.House.{House, Spot, desk}
 use Rattle.house.specs.Reading.{spot_of}
 use Rattle.house.specs.declared.layout.Spot as code

@@ -8,6 +8,10 @@ unfoldable pub held : List ℕ → ℕ → ℕ → ℕ
 held us start n = span (λ i. slice_index us (start + i)) n
 
 -- the steps of the aisles stand first, then the passages
+abbrev pub cost_in : House → List ℕ → ℕ
+cost_in h us = held us 0 (h.aisles * h.deep) + h.apart * held us (h.aisles * h.deep) (2 * (h.aisles - 1))
+
+-- each of the two alone
 abbrev pub aisles_cost : House → List ℕ → ℕ
 aisles_cost h us = held us 0 (h.aisles * h.deep)
 

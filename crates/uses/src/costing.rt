@@ -1,7 +1,7 @@
 // What uses cost: each step in an aisle counts 1, each passage the distance of two aisles.
 ghost use Rattle.std.specs.Prelude.{◌≡◌, ◌+◌, ◌*◌, ◌≤◌, length};
 ghost use Rattle.house.specs.Reading.{house_of, HandsOn};
-ghost use Rattle.uses.specs.Held.{held, aisles_cost};
+ghost use Rattle.uses.specs.Held.{held, aisles_cost, cost_in};
 ghost use Rattle.uses.specs.Layout.{uses_in};
 ghost use Rattle.uses.specs.Room.{room_rule};
 ghost use Rattle.uses.specs.Uses.{cost};
@@ -14,7 +14,14 @@ pub fn cost(house: House, uses: &[u8]) -> Result<u32, Refusal>
     ensures { HandsOn (cost (house_of house) (uses_in (house_of house) uses.now)) (room_rule (length uses.now)) result }
 {
     enough(uses.len())?;
-    Ok(in_aisles(house, uses) + in_passages(house, uses))
+    Ok(cost_of(house, uses))
+}
+
+fn cost_of(house: House, uses: &[u8]) -> u32
+    requires { 12926 ≤ length uses.now }
+    ensures { result ≡ cost_in (house_of house) uses.now }
+{
+    in_aisles(house, uses) + in_passages(house, uses)
 }
 
 // How many places the steps of the aisles take.

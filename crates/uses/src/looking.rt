@@ -18,17 +18,17 @@ pub fn look(house: House, from: Spot, step: Step) -> Option<(usize, Spot)>
     let Some(to) = landing(house, from, step) else {
         return None;
     };
-    Some((entry(house, from, step), to))
+    Some((seen_entry(house, from, step), to))
 }
 
 // The place of what the step goes along, wherever it leads.
-fn entry(house: House, from: Spot, step: Step) -> usize
+fn seen_entry(house: House, from: Spot, step: Step) -> usize
     ensures { (t : ideal.Spot) → Some t ≡ landing (house_of house) (spot_of from) (byte_of step) → Sees (house_of house) (spot_of from) (byte_of step) result t }
 {
-    place_of(house, from, step)
+    entry(house, from, step)
 }
 
-fn place_of(house: House, from: Spot, step: Step) -> usize
+fn entry(house: House, from: Spot, step: Step) -> usize
     ensures { result ≡ place (house_of house) (edge_by (house_of house) (spot_of from) (byte_of step)) }
 {
     match step {

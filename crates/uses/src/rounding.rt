@@ -64,7 +64,7 @@ fn are_seen(picks: PickList<'_>, flood: &Flood) -> bool
 }
 
 // By the spots that are linked with the desk.
-fn are_round(picks: PickList<'_>, uses: &[u8], flood: &Flood) -> bool
+fn are_fine(picks: PickList<'_>, uses: &[u8], flood: &Flood) -> bool
     requires room { 12926 ≤ length uses.now }
     requires linked { TellsLinked (house_of picks.house) uses.now flood.now.seen }
     ensures { Decides result (Round (house_of picks.entry.house) (picks_of picks.entry.bytes.now) (uses_in (house_of picks.entry.house) uses.now)) }
@@ -72,11 +72,18 @@ fn are_round(picks: PickList<'_>, uses: &[u8], flood: &Flood) -> bool
     is_fine_house(picks.house, uses, flood) && are_seen(picks, flood)
 }
 
+fn are_round(picks: PickList<'_>, uses: &[u8]) -> bool
+    requires { 12926 ≤ length uses.now }
+    ensures { Decides result (Round (house_of picks.entry.house) (picks_of picks.entry.bytes.now) (uses_in (house_of picks.entry.house) uses.now)) }
+{
+    let linked = flood(picks.house, uses);
+    are_fine(picks, uses, &linked)
+}
+
 // Whether the uses in a slice, which has room for those of any house, are round for the list. It takes time linear in the house.
 pub fn is_round(picks: PickList<'_>, uses: &[u8]) -> Result<bool, Refusal>
     ensures { TellsRound (house_of picks.entry.house) (picks_of picks.entry.bytes.now) uses.now result }
 {
     enough(uses.len())?;
-    let linked = flood(picks.house, uses);
-    Ok(are_round(picks, uses, &linked))
+    Ok(are_round(picks, uses))
 }

@@ -1,12 +1,12 @@
 // The checker of a way that is claimed to be a tour past the picks of a list.
-ghost use Rattle.std.specs.Prelude.{◌≡◌, ◌/◌, ◌<◌, false, length, replicate, nat_lt, slice_index};
+ghost use Rattle.std.specs.Prelude.{◌≡◌, ◌/◌, ◌<◌, false, length, replicate, nat_lt, Some, slice_index};
 ghost use Rattle.house.specs.House.{desk};
 ghost use Rattle.house.specs.Bounds.{picks_of, pair_at};
 ghost use Rattle.house.specs.Rules.{first_from};
 ghost use Rattle.house.specs.Reading.{house_of, spot_of, PassesOn};
-ghost use Rattle.walk.specs.Steps.{Within, measure, trace};
+ghost use Rattle.walk.specs.Steps.{Within, follow, measure, trace};
 ghost use Rattle.walk.specs.Marking.{all_marked, unmarked, GoesOn, WalksOver};
-ghost use Rattle.walk.specs.Checking.{stray_from, step_rule, same, missed, tour_or, check_of};
+ghost use Rattle.walk.specs.Checking.{stray_from, step_rule, same, missed, tour_or, verdict_of, check_of};
 
 use crate::going::onward;
 use crate::length::measure;
@@ -33,14 +33,11 @@ pub fn check(file: &[u8]) -> Result<Verdict, Refusal>
     let Ok(end) = walked else {
         return Err(walked.unwrap_err());
     };
-    if !is_desk(end) {
-        return Ok(Verdict::EndsElsewhere);
-    }
     let picks = PickList {
         house,
         bytes: claim.list,
     };
-    Ok(judged(picks, way, &marks))
+    Ok(judged(picks, way, end, &marks))
 }
 
 // Holds each byte of a way to the six steps.
@@ -105,8 +102,20 @@ fn is_desk(end: Spot) -> bool
     end.aisle == 0 && end.depth == 0
 }
 
+// The verdict on a way that leads to `end` past the marked spots.
+fn judged(picks: PickList<'_>, way: &[u8], end: Spot, marks: &Marks) -> Verdict
+    requires leads { follow (house_of picks.house) desk way.now ≡ Some (spot_of end) }
+    requires marks { marks.now.flags ≡ all_marked (replicate 12864 false) (trace (house_of picks.house) desk way.now) }
+    ensures { result ≡ verdict_of (house_of picks.entry.house) (picks_of picks.entry.bytes.now) way.now }
+{
+    if !is_desk(end) {
+        return Verdict::EndsElsewhere;
+    }
+    judged_home(picks, way, marks)
+}
+
 // The verdict on a way home past the marked spots.
-fn judged(picks: PickList<'_>, way: &[u8], marks: &Marks) -> Verdict
+fn judged_home(picks: PickList<'_>, way: &[u8], marks: &Marks) -> Verdict
     requires { marks.now.flags ≡ all_marked (replicate 12864 false) (trace (house_of picks.house) desk way.now) }
     ensures { result ≡ tour_or (measure (house_of picks.entry.house) way.now) (first_from (missed (trace (house_of picks.entry.house) desk way.now)) 0 (picks_of picks.entry.bytes.now)) }
 {

@@ -1,7 +1,7 @@
 use Rattle.std.proofs.Common.{ℕ, ◌-◌, ◌*◌, ◌≤◌, ap, ◌∙◌, mul-le-mul, arith}
 use Rattle.house.specs.Reading.{house_of}
 use Rattle.uses.specs.Held.{held}
-use Rattle.uses.proofs.HeldCost.{cost_held}
+use Rattle.uses.proofs.HeldCost.{costs_held}
 use Rattle.uses.proofs.costing.in_passages.Goals as goal
 
 pub returns : goal.returns
@@ -12,6 +12,6 @@ returns c =
     let passed : c.sum.result ≤ 255 * 126 = omega arith in
     let way : c.args.house.apart ≤ 200 = omega arith in
     record {
-      left = omega (arith, ap (λ (k : ℕ). c.args.house.apart * k) is, cost_held us (house_of c.args.house));
+      left = omega (arith, ap (λ (k : ℕ). c.args.house.apart * k) is, costs_held us (house_of c.args.house));
       small = omega (arith, mul-le-mul way passed);
     }

@@ -8,4 +8,4 @@ invariant_of-picks c =
     record { whole = f.whole; few = f.few; in_aisles = f.in_aisles; on_shelves = f.on_shelves }
 
 pub judged-requires : goal.judged-requires
-judged-requires c = let walked = c.in-Ok-walked.ensures in cc (walked.2, c.none-marks.ensures)
+judged-requires c = let walked = c.in-Ok-walked.ensures in record { leads = walked.1; marks = cc (walked.2, c.none-marks.ensures) }

@@ -5,8 +5,8 @@ use Rattle.walk.proofs.checker.first_missed.Goals as goal
 
 pub returns-then-is_missed : goal.returns-then-is_missed
 returns-then-is_missed c =
-    sym (first_here (unmarked c.args.marks.now.flags) c.args.picks.bytes.now c.loop-pick.pick (omega arith) (sym c.if-is_missed.ensures))
-    ∙ c.loop-pick.invariant
+    let here = sym (first_here (unmarked c.args.marks.now.flags) c.args.picks.bytes.now c.loop-pick.pick (omega arith) (sym c.if-is_missed.ensures)) in
+    grind (arith, here, c.loop-pick.invariant)
 
 pub loop-pick-preserved : goal.loop-pick-preserved
 loop-pick-preserved c =

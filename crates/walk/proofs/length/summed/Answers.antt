@@ -5,7 +5,7 @@ use Rattle.walk.proofs.length.summed.Goals as goal
 
 pub loop-byte-preserved : goal.loop-byte-preserved
 loop-byte-preserved c =
-    let e = measure_more c.args.way.now c.loop-byte.byte-index (house_of c.args.house) (omega arith) in (omega arith, omega arith)
+    let e = measure_more c.args.way.now c.loop-byte.byte-index (house_of c.args.house) (omega arith) in (grind (arith, e), omega arith)
 
 pub returns : goal.returns
 returns c = omega (arith, measure_all c.args.way.now c.loop-byte.byte-index (house_of c.args.house) (omega arith))

@@ -1,5 +1,5 @@
 use Rattle.uses.proofs.Rounded.{picks_within, picks_decide, spots_decide}
-use Rattle.uses.proofs.rounding.are_round.Goals as goal
+use Rattle.uses.proofs.rounding.are_fine.Goals as goal
 
 pub returns-then-is_fine_house : goal.returns-then-is_fine_house
 returns-then-is_fine_house c =
