@@ -2,7 +2,7 @@
 ghost use Rattle.std.specs.Prelude.{◌≡◌};
 ghost use Rattle.aisle.specs.Values.{effect_of};
 ghost use Rattle.std.specs.Option.{option_map};
-ghost use Rattle.aisle.specs.Costs.{Effect as Any};
+ghost use Rattle.aisle.specs.Costs.{Effect as EffectOnEnds};
 ghost use Rattle.aisle.specs.Values.{reach_of};
 ghost use Rattle.partial.specs.Prices.{priced, price_from};
 
@@ -31,7 +31,7 @@ fn price(deep: u8, reach: Option<Reach>, effect: Effect) -> u32
 impl Prices {
     // The prices of an aisle, by the reach of its picks.
     pub(crate) fn past(deep: u8, reach: Option<Reach>) -> Prices
-        ensures { (e : Any) → priced result e ≡ price_from deep (option_map reach_of reach) e }
+        ensures { (e : EffectOnEnds) → priced result e ≡ price_from deep (option_map reach_of reach) e }
     {
         Prices {
             nothing: price(deep, reach, Effect::Nothing),
