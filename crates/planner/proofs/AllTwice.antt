@@ -3,7 +3,7 @@ use Rattle.std.proofs.Common.{ℕ, zero, suc, ◌<◌, ◌≤◌, List, get_or, 
 use Rattle.graph.specs.Graph.{Linked, here}
 use Rattle.graph.proofs.Links.{linked_by, linked_trans}
 use Rattle.house.specs.House.{House, Spot, spot, desk, Sound}
-use Rattle.uses.specs.Edges.{Edge, lane, front, degree, house_graph}
+use Rattle.uses.specs.Edges.{Edge, lane, front, house_graph}
 use Rattle.uses.proofs.Degree.{inside?, degree_outside}
 use Rattle.uses.proofs.Laws.{house_laws}
 use Rattle.uses.proofs.Rings.{Ring}

@@ -1,5 +1,5 @@
 -- The planner's route: from picks in order, a filled table and what was laid down, to a shortest tour. Assumes nothing.
-use Rattle.std.proofs.Common.{◌≡◌, ℕ, suc, ◌-◌, ◌≤◌, Bool, true, false, List, [], length, take, is_ok, Some, None, Ok, Err, Option, Result, sym, refl, ap, ◌∙◌, subst, arith, length-take-le, le-leb}
+use Rattle.std.proofs.Common.{◌≡◌, ℕ, suc, ◌-◌, ◌≤◌, Bool, true, false, List, [], length, take, is_ok, Some, None, Ok, Err, Option, Result, sym, refl, ap, ◌∙◌, subst, arith, le-leb}
 use Rattle.house.specs.House.{House, Spot, Sound, desk}
 use Rattle.house.specs.Bounds.{picks_of, InAisles, OnShelves}
 use Rattle.house.specs.Rules.{unless, or_else}

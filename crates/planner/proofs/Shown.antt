@@ -3,7 +3,6 @@ use Rattle.std.proofs.Common.{◌≡◌, ℕ, suc, ◌-◌, ◌<◌, Bool, cond,
 use native.Mathlib.Decide.{dec_lt}
 use Rattle.house.specs.House.{House, Spot, Sound}
 use Rattle.walk.specs.Walk.{Tour}
-use Rattle.graph.specs.Graph as graph
 use Rattle.uses.specs.Edges.{Edge, lane, front, back, In, use_of, uses_of}
 use Rattle.uses.specs.Layout.{held_in, uses_in}
 use Rattle.uses.specs.Uses.{Round}

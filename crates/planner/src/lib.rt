@@ -5,11 +5,11 @@ mod laws;
 mod lay;
 mod planning;
 
+pub use classes::{
+    Class, Passage, closes, closings_by_rule, opening, transition, transitions_by_rule,
+};
 pub use laws::{
     exchange, plans_are_round, plans_enough, plans_have_classes, rows_are_least, shortest_exists,
     table_is_least, worked_lengths,
-};
-pub use classes::{
-    Class, Passage, closes, closings_by_rule, opening, transition, transitions_by_rule,
 };
 pub use planning::plan;
