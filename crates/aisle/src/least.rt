@@ -49,7 +49,7 @@ fn least(deep: u8, reach: Option<Reach>, effect: Effect) -> Option<AisleUse>
     cheapest(deep, reach, effect)
 }
 
-// The same in one go over the picks.
+// The cheapest use that has the effect, by the reach of the picks of a part.
 fn chosen(deep: u8, part: &[Spot], effect: Effect) -> Option<AisleUse>
     ensures { option_map use_of result ≡ best_from deep (reach_in (depths_of (spots_of part.now))) (effect_of effect) }
 {
