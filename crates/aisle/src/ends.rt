@@ -6,7 +6,7 @@ ghost use Rattle.aisle.specs.Values.{use_of, total_of};
 use crate::kinds::{AisleUse, Gap};
 
 // The uses at the front and at the back of an aisle, and whether the two are linked within it.
-#[derive(Clone, Copy)]
+#[derive(Clone, Copy, Debug, PartialEq, Eq)]
 pub struct Ends {
     pub front: u8,
     pub back: u8,

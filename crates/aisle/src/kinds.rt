@@ -1,13 +1,13 @@
 // The kinds of use of an aisle, and what a use can do to the two ends of its aisle.
 
 // The steps of an aisle from one depth to another.
-#[derive(Clone, Copy)]
+#[derive(Clone, Copy, Debug, PartialEq, Eq)]
 pub struct Gap {
     pub lo: u8,
     pub hi: u8,
 }
 
-#[derive(Clone, Copy)]
+#[derive(Clone, Copy, Debug, PartialEq, Eq)]
 pub enum AisleUse {
     // every step once
     Once,
@@ -17,7 +17,7 @@ pub enum AisleUse {
     Leaving(Gap),
 }
 
-#[derive(Clone, Copy)]
+#[derive(Clone, Copy, Debug, PartialEq, Eq)]
 pub enum Effect {
     // the aisle is not entered
     Nothing,
@@ -31,4 +31,16 @@ pub enum Effect {
     ThroughOnce,
     // walked through both ways
     ThroughTwice,
+}
+
+impl Effect {
+    // Each effect at the place of its number, `effect as u8`.
+    pub const ALL: [Effect; 6] = [
+        Effect::Nothing,
+        Effect::FromFront,
+        Effect::FromBack,
+        Effect::BothEnds,
+        Effect::ThroughOnce,
+        Effect::ThroughTwice,
+    ];
 }

@@ -8,7 +8,7 @@ ghost use Rattle.aisle.specs.Values.{gap_of, reach_of, spots_of, Begins};
 use crate::kinds::Gap;
 use house::Spot;
 
-#[derive(Clone, Copy)]
+#[derive(Clone, Copy, Debug, PartialEq, Eq)]
 pub struct Reach {
     // the depth of the first pick
     pub first: u8,

@@ -2,7 +2,7 @@
 
 // A partial tour is what is used in the first aisles and on the passages between them. Of its last aisle it matters whether
 // an odd number of uses meets at the front and at the back, an even number or none, and whether the used parts are one piece.
-#[derive(Clone, Copy)]
+#[derive(Clone, Copy, Debug, PartialEq, Eq)]
 pub enum Class {
     // odd at the front and at the back, in one piece
     OddOdd,
@@ -20,7 +20,7 @@ pub enum Class {
     Closed,
 }
 
-#[derive(Clone, Copy)]
+#[derive(Clone, Copy, Debug, PartialEq, Eq)]
 pub enum Passage {
     None,
     // one at the front and one at the back
@@ -29,4 +29,28 @@ pub enum Passage {
     TwoBack,
     // two at the front and two at the back
     TwoEach,
+}
+
+impl Class {
+    // Each class at the place of its number, `class as u8`.
+    pub const ALL: [Class; 7] = [
+        Class::OddOdd,
+        Class::EvenBack,
+        Class::EvenFront,
+        Class::EvenOne,
+        Class::EvenTwo,
+        Class::NothingYet,
+        Class::Closed,
+    ];
+}
+
+impl Passage {
+    // Each of the passages at the place of its number, `passage as u8`.
+    pub const ALL: [Passage; 5] = [
+        Passage::None,
+        Passage::OneEach,
+        Passage::TwoFront,
+        Passage::TwoBack,
+        Passage::TwoEach,
+    ];
 }
