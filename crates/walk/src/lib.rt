@@ -14,5 +14,5 @@ pub use checker::{check, only_steps};
 pub use going::landing;
 pub use laws::{bytes_tell_the_walk, checking_is_exact, not_beyond};
 pub use length::{measure, worth};
-pub use step::Step;
+pub use step::{Step, UnknownStep};
 pub use verdict::Verdict;

@@ -1,8 +1,12 @@
 // The six steps of a way, and the byte that each is written as.
 ghost use Rattle.std.specs.Prelude.{◌≡◌, ◌≤◌, Some, None};
-ghost use Rattle.walk.specs.Codes.{byte_of};
+ghost use Rattle.walk.specs.Codes.{byte_of, StepOf};
+ghost use Rattle.walk.specs.Shown.{unknown_line};
 
-#[derive(Clone, Copy)]
+use std::error::Error;
+use std::fmt;
+
+#[derive(Clone, Copy, Debug, PartialEq, Eq)]
 pub enum Step {
     // one step deeper in the aisle, or one towards the front way
     Deeper,
@@ -15,32 +19,60 @@ pub enum Step {
     BeforeBack,
 }
 
+/// A byte above 5, which no step is written as.
+#[derive(Clone, Copy, Debug, PartialEq, Eq)]
+pub struct UnknownStep(pub u8);
+
 impl Step {
+    // in the order of their bytes
+    pub const ALL: [Step; 6] = [
+        Step::Deeper,
+        Step::Back,
+        Step::NextFront,
+        Step::BeforeFront,
+        Step::NextBack,
+        Step::BeforeBack,
+    ];
+
     pub fn byte(self) -> u8
         ensures { result ≡ byte_of self }
     {
-        match self {
-            Step::Deeper => 0,
-            Step::Back => 1,
-            Step::NextFront => 2,
-            Step::BeforeFront => 3,
-            Step::NextBack => 4,
-            Step::BeforeBack => 5,
-        }
+        u8::from(self)
     }
 
     // The step that a byte is read as; above 5 there is none.
     pub fn of(byte: u8) -> Option<Step>
         ensures { elim result [ Some s ↦ byte_of s ≡ byte | None ↦ 6 ≤ byte ] }
     {
-        match byte {
-            0 => Some(Step::Deeper),
-            1 => Some(Step::Back),
-            2 => Some(Step::NextFront),
-            3 => Some(Step::BeforeFront),
-            4 => Some(Step::NextBack),
-            5 => Some(Step::BeforeBack),
-            _ => None,
-        }
+        Step::try_from(byte).ok()
     }
 }
+
+impl From<Step> for u8 {
+    ghost from_gives = { λ step byte. byte ≡ byte_of step };
+
+    fn from(step: Step) -> u8 {
+        step as u8
+    }
+}
+
+impl TryFrom<u8> for Step {
+    type Error = UnknownStep;
+
+    ghost try_from_gives = { StepOf };
+
+    fn try_from(byte: u8) -> Result<Step, UnknownStep> {
+        let step = Step::ALL.get(usize::from(byte)).copied();
+        step.ok_or(UnknownStep(byte))
+    }
+}
+
+impl fmt::Display for UnknownStep {
+    ghost output = { λ unknown. Some (unknown_line unknown) };
+
+    fn fmt<W: fmt::Write>(&self, f: &mut fmt::Formatter<W>) -> fmt::Result {
+        write!(f, "no step has byte {}", self.0)
+    }
+}
+
+impl Error for UnknownStep {}
