@@ -1,8 +1,8 @@
 -- The cost of the uses in a slice: the steps of all aisles stand first and together, then the passages. Assumes nothing.
 use Rattle.std.proofs.Common.{◌≡◌, ℕ, zero, suc, ◌+◌, ◌-◌, ◌*◌, List, get_or, sym, refl, ap, ◌∙◌, suc-mul, add-one, arith}
 use Rattle.house.specs.House.{House}
-use Rattle.uses.specs.Held.{held, cost_in, aisles_cost, passages_cost}
-use Rattle.uses.specs.Layout.{uses_in}
+use Rattle.uses.specs.Held.{held, cost_in, aisles_cost, passages_in}
+use Rattle.uses.specs.Layout.{places, uses_in}
 use Rattle.uses.specs.Uses.{span, cost}
 use Rattle.uses.proofs.Span.{span_sum}
 
@@ -67,5 +67,11 @@ module _ (us : List ℕ) where
         ap (λ (k : ℕ). h.apart * k) (held_sides start n ∙ sym (held_both start n n) ∙ ap (held us start) twice),
       )
 
-  pub costs_held : (h : House) → aisles_cost h us + passages_cost h us ≡ cost h (uses_in h us)
-  costs_held h = cost_held h
+  -- all uses together
+  pub count_held : (h : House) → aisles_cost h us + passages_in h us ≡ held us 0 (places h)
+  count_held h =
+      let m = h.aisles * h.deep in
+      let n = h.aisles - 1 in
+      let e : places h ≡ m + 2 * n = omega arith in
+      let z : 0 + m ≡ m = omega arith in
+      sym (ap (held us 0) e ∙ held_both 0 m (2 * n) ∙ ap (λ (k : ℕ). held us 0 m + held us k (2 * n)) z)

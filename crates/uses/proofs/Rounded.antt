@@ -1,9 +1,11 @@
 -- Uses are round exactly where every spot of the house keeps them so and every pick is seen from the desk. Assumes nothing.
-use Rattle.std.proofs.Common.{◌≡◌, ℕ, ◌%◌, ◌<◌, Bool, true, false, ◌&&◌, ◌||◌, eqb, List, length, get_or, Decides, subst, arith}
+use Rattle.std.proofs.Common.{◌≡◌, ℕ, ◌%◌, ◌<◌, Bool, true, false, ◌&&◌, ◌||◌, eqb, List, length, get_or, Decides, sym, subst, arith}
 use Rattle.std.proofs.lemmas.List.{get_or_default}
 use Rattle.std.proofs.lemmas.Bool.Decides.{nat_tests}
 use Rattle.house.specs.House.{House, Spot, spot, desk}
 use Rattle.house.specs.Bounds.{picks_of, InAisles, OnShelves}
+use Rattle.house.specs.Reading.{house_of}
+use Rattle.house.specs.declared.layout.House as code
 use Rattle.walk.specs.Steps.{Within}
 use Rattle.walk.specs.Marking.{has}
 use Rattle.uses.specs.Flood.{TellsLinked}
@@ -20,8 +22,15 @@ to_fine : (n : ℕ) (b : Bool) → n % 2 ≡ 0 → (0 < n → b ≡ true) → (e
 to_fine n b e f = grind (arith, nat_tests)
 
 -- the picks of a list that fits its house are spots of the house
-pub picks_within : (h : House) (list : List ℕ) → InAisles h.aisles list → OnShelves h.deep list → (i : ℕ) → i < length (picks_of list) → Within h (get_or (picks_of list) i desk)
+picks_within : (h : House) (list : List ℕ) → InAisles h.aisles list → OnShelves h.deep list → (i : ℕ) → i < length (picks_of list) → Within h (get_or (picks_of list) i desk)
 picks_within h list aisles shelves i l = record { aisle_in = aisles i l; depth_in = omega (arith, (shelves i l).1) }
+
+-- the same of a house that is theirs
+pub picks_inside :
+    (h k : code.House) (list : List ℕ) → h ≡ k → InAisles k.aisles list → OnShelves k.deep list →
+    (i : ℕ) → i < length (picks_of list) → Within (house_of h) (get_or (picks_of list) i desk)
+picks_inside h k list same aisles shelves =
+    subst (λ (x : code.House). (i : ℕ) → i < length (picks_of list) → Within (house_of x) (get_or (picks_of list) i desk)) (sym same) (picks_within (house_of k) list aisles shelves)
 
 module _ (h : House) (picks : List Spot) (us : List ℕ) (seen : List Bool) (linked : TellsLinked h us seen) (inside : (i : ℕ) → i < length picks → Within h (get_or picks i desk)) where
   round_house : Round h picks (uses_in h us) → FineHouse h us seen

@@ -11,9 +11,9 @@ held us start n = span (λ i. slice_index us (start + i)) n
 abbrev pub cost_in : House → List ℕ → ℕ
 cost_in h us = held us 0 (h.aisles * h.deep) + h.apart * held us (h.aisles * h.deep) (2 * (h.aisles - 1))
 
--- each of the two alone
+-- the first of the two alone, and how often all passages are used together
 abbrev pub aisles_cost : House → List ℕ → ℕ
 aisles_cost h us = held us 0 (h.aisles * h.deep)
 
-abbrev pub passages_cost : House → List ℕ → ℕ
-passages_cost h us = h.apart * held us (h.aisles * h.deep) (2 * (h.aisles - 1))
+abbrev pub passages_in : House → List ℕ → ℕ
+passages_in h us = held us (h.aisles * h.deep) (2 * (h.aisles - 1))

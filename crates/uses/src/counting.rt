@@ -6,7 +6,8 @@ ghost use Rattle.uses.specs.Counting.{count_rule, Adds, Tallies, Counts};
 ghost use Rattle.uses.specs.Layout.{places};
 ghost use Rattle.uses.specs.Looking.{Looks};
 
-use crate::looking::{look, places};
+use crate::layout::places;
+use crate::looking::look;
 use crate::miscount::Miscount;
 use crate::room::{ROOM, enough};
 use house::{House, Refusal, Spot};
@@ -90,10 +91,8 @@ fn take_over(counts: &[u8], n: usize, uses: &mut [u8])
 pub fn count(house: House, way: &[u8], uses: &mut [u8]) -> Result<(), Miscount>
     ensures { Counts (house_of house) way.now uses.old uses.new result }
 {
-    match countable(house, way, uses.len()) {
-        Err(refusal) => Err(Miscount::Refused(refusal)),
-        Ok(way) => count_into(house, way, uses),
-    }
+    let way = countable(house, way, uses.len())?;
+    count_into(house, way, uses)
 }
 
 // Counts a way that breaks no rule. It is counted apart first, so that an entry that is full changes nothing.

@@ -1,14 +1,15 @@
 // How a flood goes on: it leaves the spots that wait, in all directions along what is used.
-ghost use Rattle.std.specs.Prelude.{◌≡◌, ◌<◌, ◌≤◌, length};
+ghost use Rattle.std.specs.Prelude.{◌≡◌, ◌<◌, ◌≤◌};
 ghost use Rattle.house.specs.Reading.{house_of, spot_of};
 ghost use Rattle.walk.specs.Codes.{byte_of};
 ghost use Rattle.walk.specs.Marking.{cell, has};
-ghost use Rattle.walk.specs.Steps.{Within};
 ghost use Rattle.uses.specs.Flood.{left, offered, tried, spread, dry, Pops, TellsLinked};
 
+use crate::crossing::Crossing;
 use crate::flood::Flood;
+use crate::house_uses::HouseUses;
 use crate::looking::look;
-use house::{House, Spot};
+use house::Spot;
 use walk::Step;
 
 // The place of a spot's flag.
@@ -65,44 +66,40 @@ impl Flood {
     }
 
     // Looks from a spot in the direction of one step.
-    fn try_step(&mut self, house: House, uses: &[u8], at: Spot, step: Step)
-        requires uses { 12926 ≤ length uses.now }
-        requires inside { Within (house_of house) (spot_of at) }
-        requires room { left self.old ≤ 12864 }
-        ensures after { self.new ≡ tried (house_of house) uses.now (spot_of at) (byte_of step) self.old }
+    fn try_step(&mut self, from: Crossing<'_>, step: Step)
+        requires { left self.old ≤ 12864 }
+        ensures after { self.new ≡ tried (house_of from.entry.house) from.entry.entries.now (spot_of from.entry.at) (byte_of step) self.old }
         ensures less { left self.new ≤ left self.old }
     {
-        if let Some((entry, next)) = look(house, at, step) {
-            self.offer(uses[entry], next);
+        if let Some((entry, next)) = look(from.house, from.at, step) {
+            self.offer(from.entries[entry], next);
         }
     }
 
     // Looks from a spot in all six directions.
-    fn leave(&mut self, house: House, uses: &[u8], at: Spot)
-        requires uses { 12926 ≤ length uses.now }
-        requires inside { Within (house_of house) (spot_of at) }
-        requires room { left self.old ≤ 12864 }
-        ensures after { self.new ≡ spread (house_of house) uses.now (spot_of at) self.old }
+    fn leave(&mut self, from: Crossing<'_>)
+        requires { left self.old ≤ 12864 }
+        ensures after { self.new ≡ spread (house_of from.entry.house) from.entry.entries.now (spot_of from.entry.at) self.old }
         ensures less { left self.new ≤ left self.old }
     {
-        self.try_step(house, uses, at, Step::Deeper);
-        self.try_step(house, uses, at, Step::Back);
-        self.try_step(house, uses, at, Step::NextFront);
-        self.try_step(house, uses, at, Step::BeforeFront);
-        self.try_step(house, uses, at, Step::NextBack);
-        self.try_step(house, uses, at, Step::BeforeBack);
+        self.try_step(from, Step::Deeper);
+        self.try_step(from, Step::Back);
+        self.try_step(from, Step::NextFront);
+        self.try_step(from, Step::BeforeFront);
+        self.try_step(from, Step::NextBack);
+        self.try_step(from, Step::BeforeBack);
     }
 }
 
 // Marks all spots that are linked with the desk.
-pub(crate) fn flood(house: House, uses: &[u8]) -> Flood
-    requires { 12926 ≤ length uses.now }
-    ensures { TellsLinked (house_of house) uses.now result.seen }
+pub(crate) fn flood(uses: HouseUses<'_>) -> Flood
+    ensures { TellsLinked (house_of uses.entry.house) uses.entry.entries.now result.seen }
 {
+    let HouseUses { house, entries } = uses;
     let mut flood = Flood::new();
     flood.offer(1, Spot { aisle: 0, depth: 0 });
     while let Some(at) = flood.pop() {
-        flood.leave(house, uses, at);
+        flood.leave(Crossing { house, entries, at });
     }
     flood
 }

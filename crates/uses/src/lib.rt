@@ -3,8 +3,11 @@
 
 mod costing;
 mod counting;
+mod crossing;
 mod flood;
 mod flooding;
+mod house_uses;
+pub mod layout;
 mod looking;
 mod meets;
 mod miscount;
@@ -14,8 +17,11 @@ mod theorems;
 
 pub use costing::cost;
 pub use counting::count;
+pub use crossing::Crossing;
+pub use house_uses::HouseUses;
 pub use looking::look;
 pub use miscount::Miscount;
+pub use room::ROOM;
 pub use rounding::is_round;
 pub use theorems::{
     counted_is_round, counting_is_round, passages_are_even, tour_is_round, twice_enough,

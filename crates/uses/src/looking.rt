@@ -4,10 +4,10 @@ ghost use Rattle.house.specs.House as ideal;
 ghost use Rattle.house.specs.Reading.{house_of, spot_of};
 ghost use Rattle.walk.specs.Codes.{byte_of};
 ghost use Rattle.walk.specs.Steps.{landing};
-ghost use Rattle.uses.specs.Edges as edges;
-ghost use Rattle.uses.specs.Layout.{place, places};
+ghost use Rattle.uses.specs.Layout.{place};
 ghost use Rattle.uses.specs.Looking.{edge_by, Sees, Looks};
 
+use crate::layout::{back, front, lane};
 use house::{House, Spot};
 use walk::{Step, landing};
 
@@ -15,9 +15,7 @@ use walk::{Step, landing};
 pub fn look(house: House, from: Spot, step: Step) -> Option<(usize, Spot)>
     ensures { Looks (house_of house) (spot_of from) (byte_of step) result }
 {
-    let Some(to) = landing(house, from, step) else {
-        return None;
-    };
+    let to = landing(house, from, step)?;
     Some((seen_entry(house, from, step), to))
 }
 
@@ -39,33 +37,4 @@ fn entry(house: House, from: Spot, step: Step) -> usize
         Step::NextBack => back(house, from.aisle),
         Step::BeforeBack => back(house, from.aisle.saturating_sub(1)),
     }
-}
-
-// The place of the step from this depth to the next.
-pub(crate) fn lane(house: House, aisle: u8, depth: u8) -> usize
-    ensures { result ≡ place (house_of house) (edges.lane aisle depth) }
-{
-    aisle as usize * house.deep as usize + depth as usize
-}
-
-// The places of the passages from this aisle to the next.
-pub(crate) fn front(house: House, aisle: u8) -> usize
-    ensures { result ≡ place (house_of house) (edges.front aisle) }
-{
-    house.aisles as usize * house.deep as usize + aisle as usize
-}
-
-pub(crate) fn back(house: House, aisle: u8) -> usize
-    ensures { result ≡ place (house_of house) (edges.back aisle) }
-{
-    house.aisles as usize * house.deep as usize + (house.aisles as usize - 1) + aisle as usize
-}
-
-// How many places the house takes.
-pub(crate) fn places(house: House) -> usize
-    ensures { result ≡ places (house_of house) }
-{
-    house.aisles as usize * house.deep as usize
-        + (house.aisles as usize - 1)
-        + (house.aisles as usize - 1)
 }

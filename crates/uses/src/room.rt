@@ -1,11 +1,12 @@
 // The room that a slice of uses must have: a place for each edge of the largest house.
 ghost use Rattle.house.specs.Reading.{HandsOn};
-ghost use Rattle.uses.specs.Room.{room_rule};
+ghost use Rattle.uses.specs.Room.{MakesUses, room_rule};
 
-use house::{Memory, Refusal};
+use crate::house_uses::HouseUses;
+use house::{House, Memory, Refusal};
 
 // 64 aisles of 200 steps, and 63 passages at the front and at the back.
-pub(crate) const ROOM: usize = 12926;
+pub const ROOM: usize = 12926;
 
 // Hands on the length of a slice that is long enough.
 pub(crate) fn enough(len: usize) -> Result<usize, Refusal>
@@ -15,5 +16,15 @@ pub(crate) fn enough(len: usize) -> Result<usize, Refusal>
         Err(Refusal::Short(Memory::Uses))
     } else {
         Ok(len)
+    }
+}
+
+impl<'a> HouseUses<'a> {
+    // Uses in a slice that has room for those of any house.
+    pub fn new(house: House, entries: &'a [u8]) -> Result<HouseUses<'a>, Refusal>
+        ensures { MakesUses house entries.now result }
+    {
+        enough(entries.len())?;
+        Ok(HouseUses { house, entries })
     }
 }

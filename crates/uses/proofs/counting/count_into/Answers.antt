@@ -14,4 +14,4 @@ take_over-requires c =
 
 pub returns : goal.returns
 returns c =
-    (c.requires, counted_over _ c.tally.new.counts _ c.places.ensures refl c.in_ok-tally.ensures c.take_over.ensures.taken c.take_over.ensures.kept)
+    (c.requires, counted_over _ c.tally.new.counts _ c.places.ensures.is refl c.in_ok-tally.ensures c.take_over.ensures.taken c.take_over.ensures.kept)

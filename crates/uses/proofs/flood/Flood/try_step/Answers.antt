@@ -1,10 +1,9 @@
 use Rattle.std.proofs.Common.{sym, ◌∙◌, arith}
-use Rattle.uses.proofs.Taken.{sees_place}
 use Rattle.uses.proofs.Tried.{tried_out, tried_seen}
 use Rattle.uses.proofs.flood.Flood.try_step.Goals as goal
 
-pub bounds-uses-entry : goal.bounds-uses-entry
-bounds-uses-entry c = omega (arith, sees_place _ (omega arith) (omega arith) c.in-Some.ensures c.requires.inside)
+pub bounds-from-entry : goal.bounds-from-entry
+bounds-from-entry c = omega (arith, (c.in-Some.ensures.stays c.args.from.inside).0, c.args.from.room)
 
 pub returns-in-Some : goal.returns-in-Some
 returns-in-Some c = record {
