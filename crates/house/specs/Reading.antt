@@ -6,6 +6,8 @@ use Rattle.house.specs.House as ideal
 use Rattle.house.specs.Rules.{or_else, unless, aisles_rule, deep_rule, apart_rule, size_rule, aisle_rule, shelf_rule}
 use Rattle.house.specs.declared.layout.House.{House}
 use Rattle.house.specs.declared.layout.Spot.{Spot}
+use Rattle.house.specs.declared.picks.PickList.{PickList}
+use Rattle.house.specs.declared.picks.ClaimedWay.{ClaimedWay}
 use Rattle.house.specs.declared.refusal.Refusal.{Refusal}
 use Rattle.house.specs.declared.refusal.Refusal.TheVariants.{List as ListSize}
 
@@ -79,6 +81,16 @@ PassesOn list rule (Err e) = rule ≡ Some e
 abbrev pub ReadsHouse : List ℕ → Option Refusal → Result House Refusal → Type 0
 ReadsHouse file rule (Ok h) = (house_of h ≡ house_in file) × (rule ≡ None)
 ReadsHouse file rule (Err e) = rule ≡ Some e
+
+-- a reader that hands on the file's house with its list, or refuses by its rule
+abbrev pub ReadsPicks : List ℕ → Option Refusal → Result PickList Refusal → Type 0
+ReadsPicks file rule (Ok p) = (house_of p.house ≡ house_in file) × (rule ≡ None) × (p.bytes.now ≡ list_in file)
+ReadsPicks file rule (Err e) = rule ≡ Some e
+
+-- a reader that hands on the house, the list and the way of a claim, or refuses by its rule
+abbrev pub ReadsClaim : List ℕ → Option Refusal → Result ClaimedWay Refusal → Type 0
+ReadsClaim file rule (Ok c) = (house_of c.picks.house ≡ house_in file) × (rule ≡ None) × (c.picks.bytes.now ≡ claimed_list file) × (c.way.now ≡ claimed_way file)
+ReadsClaim file rule (Err e) = rule ≡ Some e
 
 -- the pick at a place of a list, if there is one
 abbrev pub Gets : List ideal.Spot → ℕ → Option Spot → Type 0

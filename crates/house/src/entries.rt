@@ -1,13 +1,27 @@
-// The picks of a list by their place.
+// The picks of a list, one after the other or by their place.
 ghost use Rattle.std.specs.Prelude.{◌≡◌, length};
+ghost use Rattle.std.specs.Iterator.{YieldsFirstBy, item_count};
 ghost use Rattle.house.specs.Bounds.{picks_of};
-ghost use Rattle.house.specs.Reading.{Gets};
+ghost use Rattle.house.specs.Reading.{spot_of, Gets};
 
 use crate::first::pair;
 use crate::layout::Spot;
 use crate::picks::PickList;
 
-impl PickList<'_> {
+// The picks of a list, first to last.
+#[derive(Clone, Copy, Debug)]
+pub struct Picks<'a> {
+    pub bytes: &'a [u8],
+}
+
+// The picks whose bytes these are; an odd byte at the end is none.
+pub fn picks_in(list: &[u8]) -> Picks<'_>
+    ensures { result.bytes.now ≡ list.now }
+{
+    Picks { bytes: list }
+}
+
+impl<'a> PickList<'a> {
     pub fn len(self) -> usize
         ensures { result ≡ length (picks_of self.entry.bytes.now) }
     {
@@ -22,5 +36,42 @@ impl PickList<'_> {
         } else {
             None
         }
+    }
+
+    pub fn iter(self) -> Picks<'a>
+        ensures { result.bytes.now ≡ self.entry.bytes.now }
+    {
+        picks_in(self.bytes)
+    }
+}
+
+impl<'a> IntoIterator for PickList<'a> {
+    type Item = Spot;
+
+    type IntoIter = Picks<'a>;
+
+    ghost into_iter_gives = { λ list picks. picks.bytes.now ≡ list.bytes.now };
+
+    fn into_iter(self) -> Picks<'a> {
+        self.iter()
+    }
+}
+
+impl<'a> Iterator for Picks<'a> {
+    type Item = Spot;
+
+    ghost next_gives = { YieldsFirstBy spot_of (λ s. picks_of s.bytes.now) };
+
+    ghost remaining = { item_count (λ s. picks_of s.bytes.now) };
+
+    fn next(&mut self) -> Option<Spot> {
+        let [aisle, depth, rest @ ..] = self.bytes else {
+            return None;
+        };
+        self.bytes = rest;
+        Some(Spot {
+            aisle: *aisle,
+            depth: *depth,
+        })
     }
 }

@@ -2,7 +2,7 @@
 ghost use Rattle.std.specs.Prelude.{◌≤◌};
 
 // A warehouse of parallel aisles between a front way and a back way, within the bounds that planning is made for.
-#[derive(Clone, Copy)]
+#[derive(Clone, Copy, Debug, PartialEq, Eq)]
 pub struct House {
     pub aisles: u8,
     // steps from the front way to the back way
@@ -18,7 +18,7 @@ pub struct House {
 }
 
 // A depth in an aisle. Spots are in order by aisle and then depth.
-#[derive(Clone, Copy, PartialEq, Eq, PartialOrd, Ord)]
+#[derive(Clone, Copy, Debug, PartialEq, Eq, PartialOrd, Ord)]
 pub struct Spot {
     pub aisle: u8,
     pub depth: u8,

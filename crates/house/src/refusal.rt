@@ -3,7 +3,7 @@ ghost use Rattle.std.specs.Prelude.{◌≡◌};
 ghost use Rattle.house.specs.Rules.{number_of, place_of, memory_of};
 
 // The memories that a caller lends for planning.
-#[derive(Clone, Copy)]
+#[derive(Clone, Copy, Debug, PartialEq, Eq)]
 pub enum Memory {
     // 512 picks
     Picks,
@@ -15,7 +15,7 @@ pub enum Memory {
     Uses,
 }
 
-#[derive(Clone, Copy)]
+#[derive(Clone, Copy, Debug, PartialEq, Eq)]
 pub enum Refusal {
     // no aisle, or more than 64
     Aisles,

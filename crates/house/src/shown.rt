@@ -3,6 +3,7 @@ ghost use Rattle.std.specs.Prelude.{Some};
 ghost use Rattle.house.specs.Shown.{refusal_line};
 
 use crate::refusal::Refusal;
+use std::error::Error;
 use std::fmt;
 
 impl fmt::Display for Refusal {
@@ -14,3 +15,5 @@ impl fmt::Display for Refusal {
         write!(f, "refused {number} at {place}")
     }
 }
+
+impl Error for Refusal {}

@@ -1,6 +1,6 @@
 // The bounds of the first three bytes and of a pick, all combinations of them, in both sorts of file.
 use crate::answer::Answer::{Accepted, Refused};
-use crate::answer::{Answer, answer_to};
+use crate::answer::{Answer, answer_to, answer_to_claim};
 use std::process::Abort;
 
 // A byte, and whether it lies within its bounds.
@@ -55,7 +55,7 @@ fn check_house(rt: &impl Abort, aisles: &Byte, deep: &Byte, apart: &Byte) {
     assert_eq!(rt; answer_to(house::read(&plan)), want, "plan {plan:?}");
     let claim = [aisles.0, deep.0, apart.0, 1, 0, 0, 1];
     assert_eq!(rt;
-        answer_to(house::read_claim(&claim)),
+        answer_to_claim(house::read_claim(&claim)),
         want,
         "claim {claim:?}"
     );
@@ -94,7 +94,7 @@ fn check_pick(rt: &impl Abort, house: &(u8, u8, u8), aisle: u8, depth: u8) {
     assert_eq!(rt; answer_to(house::read(&plan)), want, "plan {plan:?}");
     let claim = [aisles, deep, apart, 1, 0, aisle, depth];
     assert_eq!(rt;
-        answer_to(house::read_claim(&claim)),
+        answer_to_claim(house::read_claim(&claim)),
         want,
         "claim {claim:?}"
     );

@@ -1,6 +1,6 @@
 // Short claims: their answers, and the lists and ways in them.
 use crate::answer::Answer::{Accepted, Refused};
-use crate::answer::{Row, answer_to};
+use crate::answer::{Row, answer_to_claim};
 use std::process::Abort;
 
 const CUT_OFF: [Row; 16] = [
@@ -99,7 +99,11 @@ const TWO_FAULTS: [Row; 23] = [
 
 fn check_rows(rt: &impl Abort, rows: &[Row]) {
     for Row(file, want) in rows {
-        assert_eq!(rt; answer_to(house::read_claim(file)), *want, "file {file:?}");
+        assert_eq!(rt;
+            answer_to_claim(house::read_claim(file)),
+            *want,
+            "file {file:?}"
+        );
     }
 }
 

@@ -1,6 +1,6 @@
 // Files with about as many picks as a list may have, and with more.
 use crate::answer::Answer::{Accepted, Refused};
-use crate::answer::{Answer, answer_to};
+use crate::answer::{Answer, answer_to, answer_to_claim};
 use std::alloc::AllocError;
 use std::test::Fail;
 
@@ -179,7 +179,7 @@ fn claims(rt: HostRuntime) -> Result<(), Fail> {
         file.extend_from_slice(&list)?;
         file.extend_from_slice(&way)?;
         assert_eq!(rt;
-            answer_to(house::read_claim(&file)),
+            answer_to_claim(house::read_claim(&file)),
             *want,
             "{head:?}, list of {length}, way of {steps}"
         );
