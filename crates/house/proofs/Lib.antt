@@ -3,6 +3,7 @@ pub mod Cut
 pub mod Exact
 pub mod Fits
 pub mod Found
+pub mod Going
 pub mod Pairs
 pub mod Tested
 pub mod Told

@@ -3,64 +3,59 @@ ghost use Rattle.house.specs.Rules.{aisles_rule, deep_rule, apart_rule, size_rul
 ghost use Rattle.house.specs.Reading.{HandsOn, PassesOn, count_rule, claimed_list};
 
 use crate::first::{first_absent, first_outside};
-use crate::parts::{claim_of, count_of};
+use crate::parts::count_of;
 use crate::refusal::Refusal;
 
+// Kept: (a) each bound of the house is a check of its own with a pattern and a `let .. else`, a form that the request prescribes.
 pub(crate) fn aisle_count(m: u8) -> Result<u8, Refusal>
     ensures { HandsOn m (aisles_rule m) result }
 {
-    if 1 <= m && m <= 64 {
-        Ok(m)
-    } else {
-        Err(Refusal::Aisles)
-    }
+    let 1..=64 = m else {
+        return Err(Refusal::Aisles);
+    };
+    Ok(m)
 }
 
 pub(crate) fn aisle_depth(steps: u8) -> Result<u8, Refusal>
     ensures { HandsOn steps (deep_rule steps) result }
 {
-    if 2 <= steps && steps <= 200 {
-        Ok(steps)
-    } else {
-        Err(Refusal::Deep)
-    }
+    let 2..=200 = steps else {
+        return Err(Refusal::Deep);
+    };
+    Ok(steps)
 }
 
 pub(crate) fn aisle_distance(steps: u8) -> Result<u8, Refusal>
     ensures { HandsOn steps (apart_rule steps) result }
 {
-    if 1 <= steps && steps <= 200 {
-        Ok(steps)
-    } else {
-        Err(Refusal::Apart)
-    }
+    let 1..=200 = steps else {
+        return Err(Refusal::Apart);
+    };
+    Ok(steps)
 }
 
 pub(crate) fn whole_list(list: &[u8]) -> Result<&[u8], Refusal>
     ensures { PassesOn list.now (size_rule list.now) result }
 {
     let n = list.len();
-    if n % 2 == 0 && n <= 1024 {
-        Ok(list)
-    } else {
-        Err(Refusal::List(n))
-    }
+    let (0, ..=1024) = (n % 2, n) else {
+        return Err(Refusal::List(n));
+    };
+    Ok(list)
 }
 
 // A count that is cut off is told as a list of no bytes, and one that asks for too much by the bytes that it could have.
 pub(crate) fn counted_list(file: &[u8]) -> Result<&[u8], Refusal>
     ensures { PassesOn (claimed_list file.now) (count_rule file.now) result }
 {
-    if file.len() < 5 {
+    let Some(rest) = file.get(5..) else {
         return Err(Refusal::List(0));
-    }
+    };
     let asked = 2 * count_of(file);
-    let there = file.len() - 5;
-    if asked <= 1024 && asked <= there {
-        Ok(claim_of(file).list)
-    } else {
-        Err(Refusal::List(asked.min(there)))
-    }
+    let (..=1024, Some(list)) = (asked, rest.get(..asked)) else {
+        return Err(Refusal::List(asked.min(rest.len())));
+    };
+    Ok(list)
 }
 
 pub(crate) fn in_aisles(aisles: u8, list: &[u8]) -> Result<&[u8], Refusal>

@@ -1,10 +1,9 @@
 // The picks of a list, one after the other or by their place.
-ghost use Rattle.std.specs.Prelude.{◌≡◌, length};
+ghost use Rattle.std.specs.Prelude.{◌≡◌, ◌/◌, length};
 ghost use Rattle.std.specs.Iterator.{YieldsFirstBy, item_count};
 ghost use Rattle.house.specs.Bounds.{picks_of};
 ghost use Rattle.house.specs.Reading.{spot_of, Gets};
 
-use crate::first::pair;
 use crate::layout::Spot;
 use crate::picks::PickList;
 
@@ -16,7 +15,8 @@ pub struct Picks<'a> {
 
 // The picks whose bytes these are; an odd byte at the end is none.
 pub fn picks_in(list: &[u8]) -> Picks<'_>
-    ensures { result.bytes.now ≡ list.now }
+    ensures bytes { result.bytes.now ≡ list.now }
+    ensures count { length (picks_of result.bytes.now) ≡ length result.bytes.now / 2 }
 {
     Picks { bytes: list }
 }
@@ -31,10 +31,10 @@ impl<'a> PickList<'a> {
     pub fn get(self, i: usize) -> Option<Spot>
         ensures { Gets (picks_of self.entry.bytes.now) i result }
     {
-        if i < self.len() {
-            Some(pair(self.bytes, i))
-        } else {
-            None
+        let at = i.checked_mul(2)?;
+        match self.bytes.get(at..)? {
+            &[aisle, depth, ..] => Some(Spot { aisle, depth }),
+            _ => None,
         }
     }
 

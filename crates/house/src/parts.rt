@@ -1,9 +1,9 @@
 // The parts of a file: each borrows from the file, and nothing is copied.
-ghost use Rattle.std.specs.Prelude.{◌≡◌, take, drop};
+ghost use Rattle.std.specs.Prelude.{◌≡◌, drop};
 ghost use Rattle.house.specs.Reading.{byte_at, count_in, list_in, claimed_list, claimed_way};
 
 // The pick list and the way of a file that claims a way.
-#[derive(Clone, Copy)]
+#[derive(Clone, Copy, Debug, PartialEq, Eq)]
 pub struct Claim<'a> {
     // an aisle and a depth for each pick
     pub list: &'a [u8],
@@ -15,30 +15,21 @@ pub struct Claim<'a> {
 pub(crate) fn byte_at(file: &[u8], i: usize) -> u8
     ensures { result ≡ byte_at file.now i }
 {
-    if i < file.len() { file[i] } else { 0 }
+    file.get(i).copied().unwrap_or(0)
 }
 
 // The number of picks that a claim names: two bytes, the low one first.
 pub(crate) fn count_of(file: &[u8]) -> usize
     ensures { result ≡ count_in file.now }
 {
-    byte_at(file, 3) as usize + 256 * byte_at(file, 4) as usize
-}
-
-// The first n bytes, or all where there are fewer.
-fn before(bytes: &[u8], n: usize) -> &[u8]
-    ensures { result.now ≡ take n bytes.now }
-{
-    let end = n.min(bytes.len());
-    &bytes[0..end]
+    u16::from_le_bytes([byte_at(file, 3), byte_at(file, 4)]).into()
 }
 
 // What follows the first n bytes.
 fn after(bytes: &[u8], n: usize) -> &[u8]
     ensures { result.now ≡ drop n bytes.now }
 {
-    let start = n.min(bytes.len());
-    &bytes[start..]
+    bytes.get(n..).unwrap_or(&[])
 }
 
 // The pick list of a file to plan: what follows the house.
@@ -55,8 +46,6 @@ pub fn claim_of(file: &[u8]) -> Claim<'_>
 {
     let n = 2 * count_of(file);
     let rest = after(file, 5);
-    Claim {
-        list: before(rest, n),
-        way: after(rest, n),
-    }
+    let (list, way) = rest.split_at_checked(n).unwrap_or((rest, &[]));
+    Claim { list, way }
 }

@@ -40,20 +40,20 @@ fn read_house(file: &[u8]) -> Result<House, Refusal>
     })
 }
 
-fn listed<'a>(house: House, list: &'a [u8]) -> Result<&'a [u8], Refusal>
+fn listed(house: House, list: &[u8]) -> Result<&[u8], Refusal>
     ensures { PassesOn list.now (list_rule (house_of house) list.now) result }
 {
     placed(house, whole_list(list)?)
 }
 
-fn claimed<'a>(house: House, file: &'a [u8]) -> Result<&'a [u8], Refusal>
+fn claimed(house: House, file: &[u8]) -> Result<&[u8], Refusal>
     ensures { PassesOn (claimed_list file.now) (claim_rule (house_of house) file.now) result }
 {
     placed(house, counted_list(file)?)
 }
 
 // All picks are held to their aisles before any is held to its depth.
-fn placed<'a>(house: House, list: &'a [u8]) -> Result<&'a [u8], Refusal>
+fn placed(house: House, list: &[u8]) -> Result<&[u8], Refusal>
     ensures { PassesOn list.now (picks_rule (house_of house) list.now) result }
 {
     on_shelves(house.deep, in_aisles(house.aisles, list)?)

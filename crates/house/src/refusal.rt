@@ -2,7 +2,7 @@
 ghost use Rattle.std.specs.Prelude.{◌≡◌};
 ghost use Rattle.house.specs.Rules.{number_of, place_of, memory_of};
 
-// The memories that a caller lends for planning.
+// The memories that a caller lends for planning, in the order in which they are told.
 #[derive(Clone, Copy, Debug, PartialEq, Eq)]
 pub enum Memory {
     // 512 picks
@@ -41,12 +41,7 @@ impl Memory {
     fn place(self) -> usize
         ensures { result ≡ memory_of self }
     {
-        match self {
-            Memory::Picks => 0,
-            Memory::Tables => 1,
-            Memory::Steps => 2,
-            Memory::Uses => 3,
-        }
+        self as usize
     }
 }
 

@@ -1,21 +1,11 @@
-use Rattle.std.proofs.Common.{sym, ap, ◌∙◌, arith}
+use Rattle.std.proofs.Common.{sym, ap, rules, tests}
+use Rattle.house.specs.Bounds.{picks_of}
 use Rattle.house.specs.Rules.{absent}
-use Rattle.house.proofs.Pairs.{first_more, first_here, first_all}
+use Rattle.house.proofs.Going.{first_found}
 use Rattle.house.proofs.first.first_absent.Goals as goal
 
-pub returns-then-is_absent : goal.returns-then-is_absent
-returns-then-is_absent c =
-    sym
-    (first_here (absent c.args.aisles) c.args.list.now c.loop-i.i (omega arith)
-    (ap (absent c.args.aisles) (sym c.pair.ensures) ∙ sym c.is_absent.ensures ∙ c.if-is_absent.true))
-    ∙ c.loop-i.invariant
-
-pub loop-i-preserved : goal.loop-i-preserved
-loop-i-preserved c =
-    sym
-    (first_more (absent c.args.aisles) c.args.list.now c.loop-i.i (omega arith)
-    (ap (absent c.args.aisles) (sym c.pair.ensures) ∙ sym c.is_absent.ensures ∙ c.if-is_absent.false))
-    ∙ c.loop-i.invariant
-
 pub returns : goal.returns
-returns c = sym (first_all (absent c.args.aisles) c.args.list.now c.loop-i.i (omega arith)) ∙ c.loop-i.invariant
+returns c =
+    sym
+    (first_found (absent c.args.aisles) c.picks_in.result c.position.new.self _ (picks_of c.args.list.now) (ap picks_of c.picks_in.ensures.bytes) c.position.ensures.ran
+    (λ x b q k. search (rules, tests)))
