@@ -1,4 +1,5 @@
 pub mod Among
+pub mod Chains
 pub mod Clamp
 pub mod Exit
 pub mod Follow
@@ -6,8 +7,6 @@ pub mod Found
 pub mod Judge
 pub mod Lands
 pub mod Marked
-pub mod PickAt
-pub mod Rest
 pub mod Rows
 pub mod Ruled
 pub mod Same

@@ -10,7 +10,6 @@ use Rattle.walk.specs.Steps.{Within, landing, reached, trace}
 use Rattle.walk.specs.Marking.{cell, marked, all_marked, has, unmarked}
 use Rattle.walk.specs.Checking.{same, passed, missed}
 use Rattle.walk.proofs.Lands.{landing_within, desk_within}
-use Rattle.walk.proofs.PickAt.{Placed}
 use Rattle.walk.proofs.Follow.{some_or_none, reached_more}
 
 -- one spot for each place of a flag
@@ -71,7 +70,7 @@ first_alike f g i (p ∷ ps) alike =
 
 -- the first pick that is not marked is the first that the walk misses
 pub first_unmarked :
-    (n : ℕ) (h : House) (way : List ℕ) (picks : List Spot) → h.aisles ≤ n → h.deep ≤ 200 → 1 ≤ h.aisles → ((i : ℕ) → i < length picks → Placed h.aisles h.deep (get_or picks i desk)) →
+    (n : ℕ) (h : House) (way : List ℕ) (picks : List Spot) → h.aisles ≤ n → h.deep ≤ 200 → 1 ≤ h.aisles → ((i : ℕ) → i < length picks → Within h (get_or picks i desk)) →
     first_from (unmarked (all_marked (replicate (201 * n) false) (trace h desk way))) 0 picks ≡ first_from (missed (trace h desk way)) 0 picks
 first_unmarked n h way picks few shallow some placed =
     let at_desk = desk_within {h = h} some in

@@ -1,7 +1,7 @@
 -- The test whether two spots are one tells it, and so does the test whether a spot is one of a list. Assumes nothing.
-use Rattle.std.proofs.Common.{◌≡◌, Bool, false, eqb, List, [], ◌∷◌, Decides, ap}
-use Rattle.std.proofs.lemmas.Bool.Decides.{Decides-eqb, Decides-and, Decides-or, Decides-like, Decides-not}
-use Rattle.std.proofs.lemmas.Bool.{not-true, false≢true}
+use Rattle.std.proofs.Common.{◌≡◌, eqb, List, [], ◌∷◌, Decides, ap}
+use Rattle.std.proofs.lemmas.Bool.Decides.{Decides-eqb, Decides-and, Decides-or, Decides-like}
+use Rattle.std.proofs.lemmas.Bool.{false≢true}
 use Rattle.house.specs.House.{Spot, spot}
 use Rattle.walk.specs.Steps.{Among}
 use Rattle.walk.specs.Checking.{same, passed}
@@ -17,7 +17,3 @@ pub passed_decides : (ss : List Spot) (p : Spot) → Decides (passed ss p) (Amon
 unfolding passed
 passed_decides [] p = (λ e. absurd (false≢true e), λ m. absurd m)
 passed_decides (s ∷ ss) p = Decides-or (same s p) (passed ss p) (same_decides s p) (passed_decides ss p)
-
--- a test of what does not hold fails
-pub fails : {P : Type 0} (r : Bool) → Decides r P → (P → ⊥) → r ≡ false
-fails r d k = not-true r ((Decides-not r d).1 k)

@@ -1,10 +1,10 @@
 -- How the checker remembers the spots that it passed: a flag for each depth of each aisle. Assumes nothing: these are definitions.
-use Rattle.std.specs.Prelude.{◌≡◌, ℕ, ◌+◌, ◌*◌, Bool, true, false, not, List, [], ◌∷◌, Some, None, Ok, Err, Option, Result, slice_index_or, slice_set}
+use Rattle.std.specs.Prelude.{◌≡◌, ℕ, ◌+◌, ◌*◌, Bool, true, false, not, List, [], ◌∷◌, Some, None, Ok, Err, Result, slice_index_or, slice_set}
 use Rattle.house.specs.House.{House, Spot, desk}
 use Rattle.house.specs.Reading.{spot_of}
 use Rattle.house.specs.declared.layout.Spot as code
 use Rattle.house.specs.declared.refusal.Refusal.{Refusal}
-use Rattle.walk.specs.Steps.{landing, follow, trace}
+use Rattle.walk.specs.Steps.{follow, trace}
 use Rattle.walk.specs.Checking.{exit_rule}
 
 -- the place of a spot's flag: depths go from 0 to at most 200
@@ -24,11 +24,6 @@ has flags s = slice_index_or flags (cell s) false
 
 abbrev pub unmarked : List Bool → Spot → Bool
 unmarked flags s = not (has flags s)
-
--- a step from a spot, which marks the spot to which it leads; or nothing where it leads out
-abbrev pub GoesOn : House → Spot → ℕ → List Bool → List Bool → Option code.Spot → Type 0
-GoesOn h s b before after (Some t) = (landing h s b ≡ Some (spot_of t)) × (after ≡ marked before (spot_of t))
-GoesOn h s b before after None = (landing h s b ≡ None) × (after ≡ before)
 
 -- a walk over a whole row from the desk, which marks the spots that it passes; or the refusal where a step leads out
 abbrev pub WalksOver : House → List ℕ → List Bool → List Bool → Result code.Spot Refusal → Type 0

@@ -8,6 +8,9 @@ ghost use Rattle.walk.specs.Steps.{deeper, shallower, to_next, to_former, landin
 use crate::step::Step;
 use house::{House, Spot};
 
+// Where a tour begins and ends.
+pub const DESK: Spot = Spot { aisle: 0, depth: 0 };
+
 // The spot to which a step leads, or none where it leads out of the house.
 pub fn landing(house: House, from: Spot, step: Step) -> Option<Spot>
     ensures { option_map spot_of result ≡ landing (house_of house) (spot_of from) (byte_of step) }
@@ -26,61 +29,35 @@ pub fn landing(house: House, from: Spot, step: Step) -> Option<Spot>
 pub(crate) fn onward(house: House, from: Spot, byte: u8) -> Option<Spot>
     ensures { option_map spot_of result ≡ landing (house_of house) (spot_of from) byte }
 {
-    let Some(step) = Step::of(byte) else {
-        return None;
-    };
+    let step = Step::try_from(byte).ok()?;
     landing(house, from, step)
 }
 
 fn further(house: House, from: Spot) -> Option<Spot>
     ensures { option_map spot_of result ≡ deeper (house_of house) (spot_of from) }
 {
-    if from.depth < house.deep {
-        Some(Spot {
-            aisle: from.aisle,
-            depth: from.depth + 1,
-        })
-    } else {
-        None
-    }
+    let depth = from.depth.checked_add(1)?;
+    (depth <= house.deep).then_some(Spot { depth, ..from })
 }
 
 fn nearer(from: Spot) -> Option<Spot>
     ensures { option_map spot_of result ≡ shallower (spot_of from) }
 {
-    if from.depth > 0 {
-        Some(Spot {
-            aisle: from.aisle,
-            depth: from.depth - 1,
-        })
-    } else {
-        None
-    }
+    let depth = from.depth.checked_sub(1)?;
+    Some(Spot { depth, ..from })
 }
 
 // Along the way at this depth, the front way or the back way.
 fn next(house: House, from: Spot, depth: u8) -> Option<Spot>
     ensures { option_map spot_of result ≡ to_next (house_of house) (spot_of from) depth }
 {
-    if from.depth == depth && from.aisle < house.aisles - 1 {
-        Some(Spot {
-            aisle: from.aisle + 1,
-            depth,
-        })
-    } else {
-        None
-    }
+    let aisle = from.aisle.checked_add(1)?;
+    (from.depth == depth && aisle < house.aisles).then_some(Spot { aisle, depth })
 }
 
 fn former(from: Spot, depth: u8) -> Option<Spot>
     ensures { option_map spot_of result ≡ to_former (spot_of from) depth }
 {
-    if from.depth == depth && from.aisle > 0 {
-        Some(Spot {
-            aisle: from.aisle - 1,
-            depth,
-        })
-    } else {
-        None
-    }
+    let aisle = from.aisle.checked_sub(1)?;
+    (from.depth == depth).then_some(Spot { aisle, depth })
 }

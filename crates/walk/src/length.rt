@@ -20,26 +20,15 @@ pub fn worth(house: House, step: Step) -> u8
 fn byte_worth(house: House, byte: u8) -> u8
     ensures { result ≡ worth (house_of house) byte }
 {
-    let Some(step) = Step::of(byte) else {
-        return 0;
-    };
-    worth(house, step)
+    Step::try_from(byte).map_or(0, |step| worth(house, step))
 }
 
-// The length of a row of step bytes.
+// The length of a row of step bytes. No row that fits in memory is too long for the type of the sum: a step is at most 200 long.
+#[tactic(auto, using(crate::proofs::Chains::measure_sum))]
 pub fn measure(house: House, way: &[u8]) -> u128
     ensures { result ≡ measure (house_of house) way.now }
 {
-    summed(house, way)
-}
-
-// No row that fits in memory is too long for the type of the sum: a step is at most 200 long.
-fn summed(house: House, way: &[u8]) -> u128
-    ensures { result ≡ measure (house_of house) way.now }
-{
-    let mut total = 0;
-    for byte in way {
-        total += u128::from(byte_worth(house, *byte));
-    }
-    total
+    way.iter()
+        .map(|byte| u128::from(byte_worth(house, *byte)))
+        .sum()
 }

@@ -11,8 +11,9 @@ mod step;
 mod verdict;
 
 pub use checker::{check, only_steps};
-pub use going::landing;
+pub use going::{DESK, landing};
 pub use laws::{bytes_tell_the_walk, checking_is_exact, not_beyond};
 pub use length::{measure, worth};
+pub use marks::cell;
 pub use step::{Step, UnknownStep};
 pub use verdict::Verdict;

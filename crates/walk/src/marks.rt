@@ -24,19 +24,19 @@ impl Marks {
         requires { (spot.aisle < 64) × (spot.depth ≤ 200) }
         ensures { self.new.flags ≡ marked self.old.flags (spot_of spot) }
     {
-        self.flags[place(spot)] = true;
+        self.flags[cell(spot)] = true;
     }
 
     pub(crate) fn has(&self, spot: Spot) -> bool
-        requires { (spot.aisle < 64) × (spot.depth ≤ 200) }
         ensures { result ≡ has self.now.flags (spot_of spot) }
     {
-        self.flags[place(spot)]
+        self.flags.get(cell(spot)).copied().unwrap_or(false)
     }
 }
 
-fn place(spot: Spot) -> usize
+// The place of a spot's flag.
+pub fn cell(spot: Spot) -> usize
     ensures { result ≡ cell (spot_of spot) }
 {
-    201 * spot.aisle as usize + spot.depth as usize
+    201 * usize::from(spot.aisle) + usize::from(spot.depth)
 }

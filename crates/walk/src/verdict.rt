@@ -1,5 +1,5 @@
 // What the checker answers of a way that stays in the house.
-#[derive(Clone, Copy)]
+#[derive(Clone, Copy, Debug, PartialEq, Eq)]
 pub enum Verdict {
     // a tour of this length
     Way(u128),

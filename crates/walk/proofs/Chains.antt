@@ -1,0 +1,26 @@
+-- What a row is long, its first byte that is no step, and the first pick that a test finds, as chains of iterators give them. Assumes nothing.
+use Rattle.std.proofs.Common.{◌≡◌, ℕ, suc, ◌+◌, Bool, true, false, cond, not, ltb, List, [], ◌∷◌, Some, refl, ap, add-one}
+use Rattle.std.specs.List.{sum_by, position_from}
+use Rattle.std.proofs.lemmas.List.Recursion.{is_sum_by}
+use Rattle.house.specs.House.{House, Spot}
+use Rattle.house.specs.Rules.{first_from}
+use Rattle.walk.specs.Steps.{worth, measure}
+use Rattle.walk.specs.Checking.{stray_from}
+
+pub measure_sum : (h : House) (bs : List ℕ) → measure h bs ≡ sum_by (worth h) bs
+unfolding measure
+measure_sum h = is_sum_by (measure h) (worth h) refl (λ b bs. refl)
+
+pub stray_position : (i : ℕ) (bs : List ℕ) → stray_from i bs ≡ position_from (λ b. not (ltb b 6)) i bs
+unfolding stray_from
+stray_position i [] = refl
+stray_position i (b ∷ bs) =
+    elim (ltb b 6) as (λ c. cond c (stray_from (suc i) bs) (Some i) ≡ cond (not c) (Some i) (position_from (λ b. not (ltb b 6)) (i + 1) bs)) [
+      | true ↦ rw (add-one i) (stray_position (suc i) bs)
+      | false ↦ refl
+    ]
+
+pub first_position : (test : Spot → Bool) (i : ℕ) (ps : List Spot) → first_from test i ps ≡ position_from test i ps
+unfolding first_from
+first_position test i [] = refl
+first_position test i (p ∷ ps) = ap (cond (test p) (Some i)) (rw (add-one i) (first_position test (suc i) ps))
