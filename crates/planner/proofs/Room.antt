@@ -1,9 +1,10 @@
 -- What it says that lent memory is not refused. Assumes nothing.
-use Rattle.std.proofs.Common.{◌≡◌, ℕ, ◌≤◌, Bool, true, false, Some, None, Option, refl, arith, leb-true}
+use Rattle.std.proofs.Common.{◌≡◌, ℕ, ◌≤◌, Bool, true, false, length, Some, None, Option, refl, arith, leb-true}
 use Rattle.std.proofs.lemmas.Bool.{and_parts}
 use Rattle.house.specs.Rules.{or_else, unless}
 use Rattle.house.specs.declared.refusal.Refusal.{Refusal}
-use Rattle.planner.specs.Planning.{room_for}
+use Rattle.planner.specs.Planning.{held, memory_rule}
+use Rattle.planner.specs.declared.memory.Lent.{Lent}
 
 -- no refusal of two, and a rule that is kept
 both_none : (a b : Option Refusal) → or_else a b ≡ None → (a ≡ None) × (b ≡ None)
@@ -14,15 +15,15 @@ rule_kept : (b : Bool) (e : Refusal) → unless b e ≡ None → b ≡ true
 rule_kept true e z = refl
 rule_kept false e z = absurd (let w : ◌≡◌ {A = ℕ} 0 1 = cc in omega arith)
 
-pub record Room (picks lengths came steps uses : ℕ) : Type 0 where
-  pub for_picks : 512 ≤ picks
-  pub for_lengths : 448 ≤ lengths
-  pub for_came : 448 ≤ came
-  pub for_steps : 25852 ≤ steps
-  pub for_uses : 12926 ≤ uses
+pub record Room (m : Lent) : Type 0 where
+  pub for_picks : 512 ≤ length m.picks.now
+  pub for_lengths : 448 ≤ length m.lengths.now
+  pub for_came : 448 ≤ length m.came.now
+  pub for_steps : 25852 ≤ length m.steps.now
+  pub for_uses : 12926 ≤ length m.uses.now
 
-pub room_tells : (picks lengths came steps uses : ℕ) → room_for picks lengths came steps uses ≡ None → Room picks lengths came steps uses
-room_tells picks lengths came steps uses e =
+pub room_tells : (m : Lent) → memory_rule (held m) ≡ None → Room m
+room_tells m e =
     let (p, rest) = both_none _ _ e in
     let (t, more) = both_none _ _ rest in
     let (s, u) = both_none _ _ more in

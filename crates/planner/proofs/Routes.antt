@@ -157,16 +157,19 @@ pub record Facts (h : House) (picks : List Spot) (was is : List Entry) (lengths 
   pub laid : BestLaid h (sorted picks) lengths came lengths' came' us us₁
 
 pub facts :
-    (h : House) (picks : List Spot) (was is : List Entry) (lengths came lengths' came' us us₁ : List ℕ) (n : ℕ) (s : Result ℕ Refusal) → Sorts picks was is s → s ≡ Ok n →
-    BestLaid h (spots_of (take (n - 0) is)) lengths came lengths' came' us us₁ → Facts h picks was is lengths came lengths' came' us us₁
-facts h picks was is lengths came lengths' came' us us₁ n s sorts told laid =
+    (h : House) (picks : List Spot) (was is : List Entry) (lengths came lengths' came' us us₁ choices : List ℕ) (n : ℕ) (s : Result ℕ Refusal) (r : Result (List ℕ) Refusal) →
+    Sorts picks was is s → s ≡ Ok n → Chooses h (spots_of (take n is)) (tables lengths came) (tables lengths' came') r → r ≡ Ok choices →
+    Laid h (at choices) (part_at (spots_of (take n is))) h.aisles us us₁ → Facts h picks was is lengths came lengths' came' us us₁
+facts h picks was is lengths came lengths' came' us us₁ choices n s r sorts told chooses made laid =
     record {
       holds = subst (λ k. Holds k (sorted picks) was is) done.1 done.2;
-      laid = subst (λ ss. BestLaid h ss lengths came lengths' came' us us₁) (ap (λ (k : ℕ). spots_of (take k is)) whole ∙ done.2.first) laid;
+      laid = subst (λ ss. BestLaid h ss lengths came lengths' came' us us₁) (done.2.first) best;
     }
   where
     done : (512 ≤ length was) × (n ≡ length picks) × Holds n (sorted picks) was is
     done = subst (Sorts picks was is) told sorts
 
-    whole : n - 0 ≡ n
-    whole = omega arith
+    best : BestLaid h (spots_of (take n is)) lengths came lengths' came' us us₁
+    best =
+        chosen_laid h (spots_of (take n is)) lengths came lengths' came' choices us us₁
+        (subst (Chooses h (spots_of (take n is)) (tables lengths came) (tables lengths' came')) made chooses).1 laid

@@ -18,6 +18,7 @@ use Rattle.classes.specs.Classes.{Class}
 use Rattle.partial.specs.Ending.{Ends}
 use Rattle.partial.specs.Filling.{filled}
 use Rattle.planner.specs.Laying.{laid_by, part_at}
+use Rattle.planner.specs.declared.memory.Lent as code
 use Rattle.partial.specs.Table.{tables}
 use Rattle.partial.specs.Tracing.{chosen}
 
@@ -31,6 +32,18 @@ pub record Lent : Type 0 where
 
 abbrev pub lent : List Entry → List ℕ → List ℕ → List ℕ → List ℕ → Lent
 lent picks lengths came steps uses = record { picks = picks; lengths = lengths; came = came; steps = steps; uses = uses }
+
+-- what lent memory holds
+abbrev pub held : code.Lent → Lent
+held m = lent m.picks.now m.lengths.now m.came.now m.steps.now m.uses.now
+
+-- the same slices are lent
+pub record SameSlices (was is : code.Lent) : Type 0 where
+  pub picks : is.picks.ghost_name ≡ was.picks.ghost_name
+  pub lengths : is.lengths.ghost_name ≡ was.lengths.ghost_name
+  pub came : is.came.ghost_name ≡ was.came.ghost_name
+  pub steps : is.steps.ghost_name ≡ was.steps.ghost_name
+  pub uses : is.uses.ghost_name ≡ was.uses.ghost_name
 
 -- room for 512 picks, for 64 aisles of seven classes in both tables, for 25,852 steps and for 12,926 uses; of several the first is told
 abbrev pub room_for : ℕ → ℕ → ℕ → ℕ → ℕ → Option Refusal

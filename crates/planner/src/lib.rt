@@ -3,6 +3,7 @@
 
 mod laws;
 mod lay;
+mod memory;
 mod planning;
 
 pub use classes::{
@@ -12,4 +13,5 @@ pub use laws::{
     exchange, plans_are_round, plans_enough, plans_have_classes, rows_are_least, shortest_exists,
     table_is_least, worked_lengths,
 };
+pub use memory::{CELLS, Lent, PICKS, STEPS, USES};
 pub use planning::plan;

@@ -1,99 +1,57 @@
 // The planner: bytes and lent memory in, a shortest tour out.
-ghost use Rattle.std.specs.Prelude.{◌≡◌, ◌≤◌, length, Some, None, MatchResult};
+ghost use Rattle.std.specs.Prelude.{◌≡◌, ◌≤◌, length, None};
 ghost use Rattle.house.specs.Bounds.{picks_of};
 ghost use Rattle.house.specs.Reading.{house_of};
-ghost use Rattle.aisle.specs.Values.{spots_of};
-ghost use Rattle.planner.specs.Planning.{room_for, BestLaid, Routed, Written, Plans, lent};
+ghost use Rattle.aisle.specs.Order.{sorted};
+ghost use Rattle.aisle.specs.Sorting.{Holds};
+ghost use Rattle.planner.specs.Planning.{BestLaid, Routed, SameSlices, Written, Plans, held, memory_rule};
 
 use crate::lay::lay;
+use crate::memory::Lent;
 use aisle::sort_picks;
 use euler::{Walked, walk_uses};
-use house::{House, Memory, PickList, Refusal, Spot, list_of, read};
+use house::{PickList, Refusal, Spot, read};
 use partial::best_choices;
 
-// Holds the sizes of lent memory to what the largest house asks for.
-fn enough(
-    picks: usize,
-    lengths: usize,
-    came: usize,
-    steps: usize,
-    uses: usize,
-) -> Result<(), Refusal>
-    ensures { MatchResult result (λ _. room_for picks lengths came steps uses ≡ None) (λ e. room_for picks lengths came steps uses ≡ Some e) }
-{
-    if picks < 512 {
-        return Err(Refusal::Short(Memory::Picks));
-    }
-    if lengths < 448 || came < 448 {
-        return Err(Refusal::Short(Memory::Tables));
-    }
-    if steps < 25852 {
-        return Err(Refusal::Short(Memory::Steps));
-    }
-    if uses < 12926 {
-        return Err(Refusal::Short(Memory::Uses));
-    }
-    Ok(())
-}
-
-// The uses of a shortest tour, for picks in order.
-fn lay_best(house: House, picks: &[Spot], lengths: &mut [u32], came: &mut [u8], uses: &mut [u8])
-    requires { (448 ≤ length lengths.old) × ((448 ≤ length came.old) × (12926 ≤ length uses.old)) }
-    ensures { BestLaid (house_of house) (spots_of picks.now) lengths.old came.old lengths.new came.new uses.old uses.new }
-{
-    let choices = best_choices(house, picks, lengths, came).unwrap();
-    lay(house, picks, choices, uses);
-}
-
-// A shortest tour past the picks of a list.
-fn route(
+// The uses of a shortest tour past the picks of a list.
+fn lay_best(
     list: PickList<'_>,
     picks: &mut [Spot],
     lengths: &mut [u32],
     came: &mut [u8],
-    steps: &mut [u8],
     uses: &mut [u8],
-) -> Walked
-    requires picks { 512 ≤ length picks.old }
+)
+    requires sorting { 512 ≤ length picks.old }
     requires tables { (448 ≤ length lengths.old) × (448 ≤ length came.old) }
-    requires walk { (25852 ≤ length steps.old) × (12926 ≤ length uses.old) }
-    ensures routed { Routed (house_of list.entry.house) (picks_of list.entry.bytes.now) (lent picks.old lengths.old came.old steps.old uses.old) (lent picks.new lengths.new came.new steps.new uses.new) result }
-    ensures written { result.steps ≤ length steps.new }
+    requires laying { 12926 ≤ length uses.old }
+    ensures sorted { Holds (length (picks_of list.entry.bytes.now)) (sorted (picks_of list.entry.bytes.now)) picks.old picks.new }
+    ensures laid { BestLaid (house_of list.entry.house) (sorted (picks_of list.entry.bytes.now)) lengths.old came.old lengths.new came.new uses.old uses.new }
 {
     let n = sort_picks(list, picks).unwrap();
-    lay_best(list.house, &picks[0..n], lengths, came, uses);
-    walk_uses(list.house, uses, steps).unwrap()
+    let choices = best_choices(list.house, &picks[..n], lengths, came).unwrap();
+    lay(list.house, &picks[..n], choices, uses);
+}
+
+impl Lent<'_> {
+    // A shortest tour past the picks of a list.
+    fn route(&mut self, list: PickList<'_>) -> Walked
+        requires { memory_rule (held self.old) ≡ None }
+        ensures routed { Routed (house_of list.entry.house) (picks_of list.entry.bytes.now) (held self.old) (held self.new) result }
+        ensures written { result.steps ≤ length self.new.steps.now }
+        ensures same { SameSlices self.old self.new }
+    {
+        lay_best(list, self.picks, self.lengths, self.came, self.uses);
+        walk_uses(list.house, self.uses, self.steps).unwrap()
+    }
 }
 
 // Plans a file: holds the memory to its sizes and the file to its rules, and writes the steps of a shortest tour past its picks.
-pub fn plan(
-    file: &[u8],
-    picks: &mut [Spot],
-    lengths: &mut [u32],
-    came: &mut [u8],
-    steps: &mut [u8],
-    uses: &mut [u8],
-) -> Result<Walked, Refusal>
-    ensures plans { Plans file.now (lent picks.old lengths.old came.old steps.old uses.old) (lent picks.new lengths.new came.new steps.new uses.new) result }
-    ensures written { Written steps.new result }
+pub fn plan(file: &[u8], memory: &mut Lent<'_>) -> Result<Walked, Refusal>
+    ensures plans { Plans file.now (held memory.old) (held memory.new) result }
+    ensures written { Written memory.new.steps.now result }
+    ensures same { SameSlices memory.old memory.new }
 {
-    let room = enough(
-        picks.len(),
-        lengths.len(),
-        came.len(),
-        steps.len(),
-        uses.len(),
-    );
-    let Ok(()) = room else {
-        return Err(room.unwrap_err());
-    };
-    let checked = read(file);
-    let Ok(house) = checked else {
-        return Err(checked.unwrap_err());
-    };
-    let list = PickList {
-        house,
-        bytes: list_of(file),
-    };
-    Ok(route(list, picks, lengths, came, steps, uses))
+    memory.enough()?;
+    let list = read(file)?;
+    Ok(memory.route(list))
 }

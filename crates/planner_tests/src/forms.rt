@@ -1,5 +1,6 @@
 // What a way is made of, read from its uses alone: the passages between neighbouring aisles, the kind of use of each aisle, and the class of what is used up to it.
 use house::House;
+use planner::USES;
 use std::process::Abort;
 use std::test::*;
 use uses::count;
@@ -181,7 +182,7 @@ impl Counts {
     }
 
     pub fn add_way(&mut self, house: House, way: &[u8]) -> Result<(), Fail> {
-        let mut uses = [9; 12926];
+        let mut uses = [9; USES];
         let Ok(_) = count(house, way, &mut uses) else {
             return Err(Fail::new("not counted"));
         };

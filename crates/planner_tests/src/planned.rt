@@ -1,13 +1,11 @@
 // A list that is planned, and its way, which is held to the checker.
 use euler::Walked;
 use house::Spot;
-use planner::plan;
+use planner::{CELLS, Lent, PICKS, STEPS, USES, plan};
 use std::alloc::{AllocError, Global};
 use std::process::Abort;
 use std::test::*;
 use walk::{Verdict, check as judge};
-
-pub const STEPS: usize = 25852;
 
 // What the checker reads: the house, the number of picks in two bytes, the picks, and the way.
 fn claim(heap: Global, house: &[u8], list: &[u8], way: &[u8]) -> Result<Vec<u8>, AllocError> {
@@ -44,11 +42,14 @@ pub fn planned(
     file: &[u8],
     steps: &mut [u8; STEPS],
 ) -> Result<Walked, Fail> {
-    let mut picks = [Spot { aisle: 9, depth: 9 }; 512];
-    let mut lengths = [9; 448];
-    let mut came = [9; 448];
-    let mut uses = [9; 12926];
-    let Ok(walked) = plan(file, &mut picks, &mut lengths, &mut came, steps, &mut uses) else {
+    let mut memory = Lent {
+        picks: &mut [Spot { aisle: 9, depth: 9 }; PICKS],
+        lengths: &mut [9; CELLS],
+        came: &mut [9; CELLS],
+        steps,
+        uses: &mut [9; USES],
+    };
+    let Ok(walked) = plan(file, &mut memory) else {
         return Err(Fail::new("refused"));
     };
     let n = walked.steps;

@@ -1,9 +1,10 @@
 // Lengths of shortest tours: of worked lists, and of small houses beside the shortest of all walks. The plans of the small houses have every form.
 use crate::forms::Counts;
 use crate::houses::Draws;
-use crate::planned::{STEPS, planned};
+use crate::planned::planned;
 use crate::walks::shortest;
-use house::{list_of, read};
+use house::read;
+use planner::STEPS;
 use std::alloc::Global;
 use std::process::Abort;
 use std::test::*;
@@ -44,7 +45,7 @@ fn check_house(
     file: &[u8],
     counts: &mut Counts,
 ) -> Result<(), Fail> {
-    let Ok(house) = read(file) else {
+    let Ok(list) = read(file) else {
         return Err(Fail::new("no house"));
     };
     let mut steps = [9; STEPS];
@@ -53,10 +54,10 @@ fn check_house(
     assert!(rt; n <= STEPS, "{file:?}");
     assert_eq!(rt;
         Some(walked.length),
-        shortest(house, list_of(file)),
+        shortest(list.house, list.bytes),
         "{file:?}"
     );
-    counts.add_way(house, &steps[0..n])
+    counts.add_way(list.house, &steps[0..n])
 }
 
 #[test]

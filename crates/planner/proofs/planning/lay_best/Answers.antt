@@ -1,17 +1,16 @@
-use Rattle.std.proofs.Common.{subst, arith}
+use Rattle.std.proofs.Common.{arith}
+use Rattle.house.specs.Bounds.{picks_of}
 use Rattle.house.specs.Reading.{house_of}
 use Rattle.aisle.specs.Values.{spots_of}
-use Rattle.partial.specs.Choosing.{Chooses}
 use Rattle.partial.specs.Table.{tables}
-use Rattle.planner.proofs.Routes.{is_chosen, chosen_laid}
+use Rattle.planner.proofs.Routes.{is_chosen, facts}
 use Rattle.planner.proofs.planning.lay_best.Goals as goal
 
 pub unwrap-choices-requires : goal.unwrap-choices-requires
-unwrap-choices-requires c = is_chosen _ _ (tables c.args.lengths.now c.args.came.now) _ _ (omega arith) (omega arith) c.best_choices.ensures
+unwrap-choices-requires c = is_chosen _ _ (tables c.args.lengths.now c.args.came.now) _ _ c.requires.tables.0 c.requires.tables.1 c.best_choices.ensures
 
 pub returns : goal.returns
 returns c =
-    chosen_laid _ _ _ _ _ _ c.unwrap-choices.result _ _
-    (subst (Chooses (house_of c.args.house) (spots_of c.args.picks.now) (tables c.args.lengths.now c.args.came.now) _) c.unwrap-choices.ensures
-    c.best_choices.ensures).1
-    c.lay.ensures
+    let f = facts (house_of c.args.list.house) (picks_of c.args.list.bytes.now) _ _ _ _ _ _ _ _ c.unwrap-choices.result c.unwrap-n.result _ _ c.sort_picks.ensures
+        c.unwrap-n.ensures c.best_choices.ensures c.unwrap-choices.ensures c.lay.ensures in
+    record { sorted = f.holds; laid = f.laid }

@@ -1,0 +1,51 @@
+// The memory that is lent for planning, with room for the largest house and the longest list.
+ghost use Rattle.std.specs.Prelude.{◌≡◌, Some, None, MatchResult};
+ghost use Rattle.planner.specs.Planning.{held, memory_rule};
+
+use house::{Memory, Refusal, Spot};
+
+// Picks of a list.
+pub const PICKS: usize = 512;
+
+// Cells of a table of partial tours, seven for each of 64 aisles.
+pub const CELLS: usize = 448;
+
+// Steps of a tour: each use of the largest house, once or twice.
+pub const STEPS: usize = 25852;
+
+// Uses of the largest house.
+pub const USES: usize = 12926;
+
+#[derive(Drop)]
+pub struct Lent<'a> {
+    // the picks in order
+    pub picks: &'a mut [Spot],
+    // the table of partial tours: their lengths, and where each came from
+    pub lengths: &'a mut [u32],
+    pub came: &'a mut [u8],
+    // the steps of the tour
+    pub steps: &'a mut [u8],
+    // the uses of the plan
+    pub uses: &'a mut [u8],
+}
+
+impl Lent<'_> {
+    // Holds the memory to its sizes.
+    pub(crate) fn enough(&self) -> Result<(), Refusal>
+        ensures { MatchResult result (λ _. memory_rule (held self.now) ≡ None) (λ e. memory_rule (held self.now) ≡ Some e) }
+    {
+        let PICKS.. = self.picks.len() else {
+            return Err(Refusal::Short(Memory::Picks));
+        };
+        let (CELLS.., CELLS..) = (self.lengths.len(), self.came.len()) else {
+            return Err(Refusal::Short(Memory::Tables));
+        };
+        let STEPS.. = self.steps.len() else {
+            return Err(Refusal::Short(Memory::Steps));
+        };
+        let USES.. = self.uses.len() else {
+            return Err(Refusal::Short(Memory::Uses));
+        };
+        Ok(())
+    }
+}
