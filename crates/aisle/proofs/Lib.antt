@@ -1,6 +1,7 @@
 pub mod Ascending
 pub mod Before
 pub mod Best
+pub mod Blocks
 pub mod CodeCosts
 pub mod CutOff
 pub mod DepthsInOrder

@@ -1,25 +1,29 @@
--- How many picks at the start of a list stand in one aisle, pick by pick. Assumes nothing.
-use Rattle.std.proofs.Common.{◌≡◌, ℕ, suc, ◌+◌, ◌<◌, ◌≤◌, Bool, true, false, cond, eqb, List, length, get_or, drop, sym, ap, ◌∙◌, arith}
-use Rattle.std.proofs.lemmas.List.{at_drop_more, at_drop_all}
+-- How many picks at the start of a list stand in one aisle. Assumes nothing.
+use Rattle.std.proofs.Common.{◌≡◌, ℕ, suc, ◌+◌, ◌<◌, Bool, true, false, cond, eqb, List, [], ◌∷◌, length, take, drop, sym, refl, ap, ◌∙◌, arith}
+use Rattle.std.proofs.lemmas.List.{at_drop_all, take_rest}
+use Rattle.std.specs.List.{prefix_len, slice_range, take_while}
 use Rattle.house.specs.declared.layout.Spot.{Spot}
 use Rattle.aisle.specs.Order.{run}
 use Rattle.aisle.specs.Values.{spots_of}
 
-module _ (a : ℕ) (xs : List Spot) (i : ℕ) where
-  run_by : (d : Spot) (b : Bool) → eqb (get_or xs i d).aisle a ≡ b → i < length xs → run a (spots_of (drop i xs)) ≡ cond b (suc (run a (spots_of (drop (i + 1) xs)))) 0
+module _ (a : ℕ) where
+  run_is : (xs : List Spot) → run a (spots_of xs) ≡ length (take_while (λ (s : Spot). eqb s.aisle a) xs)
   unfolding run
-  run_by d b e l =
-      at_drop_more (λ (m : List Spot). run a (spots_of m)) xs i d l ∙ ap (λ (t : Bool). cond t (suc (run a (spots_of (drop (i + 1) xs)))) 0) e
+  run_is [] = refl
+  run_is (x ∷ xs) = by (eqb x.aisle a) (run_is xs)
+    where
+      on : ℕ
+      on = prefix_len (λ (s : Spot). eqb s.aisle a) xs
 
-  -- the end of the run stays where it is as the pick at i joins it, or is at i
-  pub run_more :
-      (d : Spot) (end : ℕ) → i < length xs → true ≡ eqb (get_or xs i d).aisle a → i + run a (spots_of (drop i xs)) ≡ end →
-      i + 1 + run a (spots_of (drop (i + 1) xs)) ≡ end
-  run_more d end l e so = omega (arith, run_by d true (sym e) l)
+      by : (b : Bool) → run a (spots_of xs) ≡ length (take on xs) → cond b (suc (run a (spots_of xs))) 0 ≡ length (take (cond b (1 + on) 0) (x ∷ xs))
+      by true e = let next : suc on ≡ 1 + on = omega arith in ap suc e ∙ ap (λ (n : ℕ). length (take n (x ∷ xs))) next
+      by false e = refl
 
-  pub run_other : (d : Spot) (end : ℕ) → i < length xs → false ≡ eqb (get_or xs i d).aisle a → i + run a (spots_of (drop i xs)) ≡ end → i ≡ end
-  run_other d end l e so = omega (arith, run_by d false (sym e) l)
+  -- the picks from a place on, and none past the last
+  pub run_later :
+      (xs : List Spot) (from : ℕ) → run a (spots_of (drop from xs)) ≡ length (take_while (λ (s : Spot). eqb s.aisle a) (slice_range xs from (length xs)))
+  run_later xs from = run_is (drop from xs) ∙ ap (λ (l : List Spot). length (take_while (λ (s : Spot). eqb s.aisle a) l)) (sym (take_rest xs from))
 
-  pub run_all : (end : ℕ) → length xs ≤ i → i + run a (spots_of (drop i xs)) ≡ end → i ≡ end
+  pub run_past : (xs : List Spot) (from : ℕ) → length xs < from → run a (spots_of (drop from xs)) ≡ 0
   unfolding run
-  run_all end l so = omega (arith, at_drop_all (λ (m : List Spot). run a (spots_of m)) xs i l)
+  run_past xs from l = at_drop_all (λ (m : List Spot). run a (spots_of m)) xs from (omega arith)

@@ -1,6 +1,5 @@
 -- What the code's values stand for. Assumes nothing: these are definitions.
-use Rattle.std.specs.Prelude.{◌≡◌, ℕ, ◌-◌, ◌*◌, min, List, map, Some, None, Option}
-use Rattle.std.specs.Borrow.{Bor}
+use Rattle.std.specs.Prelude.{ℕ, ◌-◌, ◌*◌, min, List, map}
 use Rattle.house.specs.House as house
 use Rattle.house.specs.Reading.{spot_of}
 use Rattle.house.specs.declared.layout.Spot.{Spot}
@@ -34,11 +33,6 @@ effect_of ThroughTwice = ideal.through_twice
 
 abbrev pub reach_of : Reach → reach.Reach
 reach_of r = record { first = r.first; last = r.last; gap = gap_of r.gap }
-
--- the first of some depths by its reach, and the other picks; or none where there is no depth
-abbrev pub Begins : List ℕ → Option (Reach × Bor (List Spot)) → Type 0
-Begins ds None = reach.reach_in ds ≡ None
-Begins ds (Some p) = reach.reach_in ds ≡ Some (reach.along (reach_of p.0) (reach.depths_of (spots_of p.1.now)))
 
 -- the cost of a use by the steps that it leaves out
 abbrev pub total_of : ℕ → ideal.Use → ℕ

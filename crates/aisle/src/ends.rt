@@ -1,7 +1,7 @@
 // How often a use takes each step of its aisle, what it does to the two ends, and what it costs.
 ghost use Rattle.std.specs.Prelude.{◌≡◌, ◌+◌, ◌-◌, ◌*◌, min, ◌&&◌, if◌then◌else◌, nat_le, nat_lt};
 ghost use Rattle.aisle.specs.Costs.{hole, steps_of_use, front_of, back_of, joins, use_cost};
-ghost use Rattle.aisle.specs.Values.{use_of, total_of};
+ghost use Rattle.aisle.specs.Values.{use_of};
 
 use crate::kinds::{AisleUse, Gap};
 
@@ -18,7 +18,7 @@ impl Gap {
     fn holds(self, y: u8) -> bool
         ensures { result ≡ nat_le self.lo y && nat_lt y self.hi }
     {
-        self.lo <= y && y < self.hi
+        (self.lo..self.hi).contains(&y)
     }
 
     // How often the step from depth y on is used by what leaves the gap out.
@@ -81,17 +81,10 @@ impl AisleUse {
         }
     }
 
-    // What it leaves of walking through both ways.
-    fn total(self, deep: u8) -> u16
-        ensures { result ≡ total_of deep (use_of self) }
-    {
-        2 * u16::from(deep) - self.saved(deep)
-    }
-
     // The uses of all steps of an aisle so many steps deep.
     pub fn cost(self, deep: u8) -> u16
         ensures { result ≡ use_cost deep (use_of self) }
     {
-        self.total(deep)
+        2 * u16::from(deep) - self.saved(deep)
     }
 }

@@ -1,8 +1,8 @@
 // The cheapest use of an aisle for each effect on its ends.
-ghost use Rattle.std.specs.Prelude.{◌≡◌, ℕ, List};
+ghost use Rattle.std.specs.Prelude.{◌≡◌};
 ghost use Rattle.std.specs.Option.{option_map};
 ghost use Rattle.aisle.specs.Costs.{Depths, best, leaving_gap, LeastUse};
-ghost use Rattle.aisle.specs.Reach.{depths_of, reach_in, best_from};
+ghost use Rattle.aisle.specs.Reach.{depths_of, best_from};
 ghost use Rattle.aisle.specs.Values.{effect_of, gap_of, reach_of, spots_of, use_of};
 
 use crate::kinds::{AisleUse, Effect, Gap};
@@ -13,11 +13,7 @@ use house::Spot;
 fn leave_out(gap: Gap) -> Option<AisleUse>
     ensures { option_map use_of result ≡ leaving_gap (gap_of gap) }
 {
-    if gap.lo < gap.hi {
-        Some(AisleUse::Leaving(gap))
-    } else {
-        None
-    }
+    (gap.lo < gap.hi).then_some(AisleUse::Leaving(gap))
 }
 
 // The cheapest use that has the effect, by the reach of the aisle's picks; none where no use has it.
@@ -41,25 +37,10 @@ pub fn cheapest(deep: u8, reach: Option<Reach>, effect: Effect) -> Option<AisleU
     }
 }
 
-// The same, said of all picks that have the reach.
-fn least(deep: u8, reach: Option<Reach>, effect: Effect) -> Option<AisleUse>
-    ensures best { (ds : List ℕ) → option_map reach_of reach ≡ reach_in ds → option_map use_of result ≡ best deep ds (effect_of effect) }
-    ensures least { (ds : List ℕ) → option_map reach_of reach ≡ reach_in ds → Depths deep ds → LeastUse deep ds (effect_of effect) (option_map use_of result) }
-{
-    cheapest(deep, reach, effect)
-}
-
-// The cheapest use that has the effect, by the reach of the picks of a part.
-fn chosen(deep: u8, part: &[Spot], effect: Effect) -> Option<AisleUse>
-    ensures { option_map use_of result ≡ best_from deep (reach_in (depths_of (spots_of part.now))) (effect_of effect) }
-{
-    least(deep, Reach::of(part), effect)
-}
-
 // The cheapest use that has the effect: where the picks stand inside the aisle in order of depth, no other use that has it costs less.
 pub fn cheapest_past(deep: u8, part: &[Spot], effect: Effect) -> Option<AisleUse>
     ensures best { option_map use_of result ≡ best deep (depths_of (spots_of part.now)) (effect_of effect) }
     ensures least { Depths deep (depths_of (spots_of part.now)) → LeastUse deep (depths_of (spots_of part.now)) (effect_of effect) (option_map use_of result) }
 {
-    chosen(deep, part, effect)
+    cheapest(deep, Reach::of(part), effect)
 }

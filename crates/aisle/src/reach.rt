@@ -3,7 +3,7 @@ ghost use Rattle.std.specs.Prelude.{◌≡◌, ◌-◌};
 ghost use Rattle.std.specs.Option.{option_map};
 ghost use Rattle.aisle.specs.Costs.{wider};
 ghost use Rattle.aisle.specs.Reach.{depths_of, only_at, on_to, along, reach_in};
-ghost use Rattle.aisle.specs.Values.{gap_of, reach_of, spots_of, Begins};
+ghost use Rattle.aisle.specs.Values.{gap_of, reach_of, spots_of};
 
 use crate::kinds::Gap;
 use house::Spot;
@@ -66,34 +66,19 @@ impl Reach {
         }
     }
 
-    // The reach of the first pick, and the picks that it is still to be held to.
-    fn begin<'a>(part: &'a [Spot]) -> Option<(Reach, &'a [Spot])>
-        ensures { Begins (depths_of (spots_of part.now)) result }
-    {
-        let [first, rest @ ..] = part else {
-            return None;
-        };
-        Some((Reach::only_at(first.depth), rest))
-    }
-
     // The reach of more picks.
     fn past(self, rest: &[Spot]) -> Reach
         ensures { reach_of result ≡ along (reach_of self) (depths_of (spots_of rest.now)) }
     {
-        let mut reach = self;
-        for pick in rest {
-            reach = reach.on_to(pick.depth);
-        }
-        reach
+        rest.iter()
+            .fold(self, |reach, pick| reach.on_to(pick.depth))
     }
 
     // The reach of the picks of an aisle, or none where there are none.
     pub fn of(part: &[Spot]) -> Option<Reach>
         ensures { option_map reach_of result ≡ reach_in (depths_of (spots_of part.now)) }
     {
-        let Some((first, rest)) = Reach::begin(part) else {
-            return None;
-        };
-        Some(first.past(rest))
+        let (first, rest) = part.split_first()?;
+        Some(Reach::only_at(first.depth).past(rest))
     }
 }

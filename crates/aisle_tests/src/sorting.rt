@@ -1,6 +1,6 @@
 // The picks of a list in order of aisle and then depth, in lent memory.
 use aisle::{part_end, sort_picks};
-use house::{PickList, Refusal, Spot, list_of, read};
+use house::{Refusal, Spot, read};
 use std::test::Fail;
 
 // What the memory holds before anything is written to it: no house has such a spot.
@@ -10,15 +10,7 @@ const OTHER: Spot = Spot {
 };
 
 fn sort_file(file: &[u8], lent: &mut [Spot]) -> Result<usize, Refusal> {
-    let checked = read(file);
-    let Ok(house) = checked else {
-        return Err(checked.unwrap_err());
-    };
-    let picks = PickList {
-        house,
-        bytes: list_of(file),
-    };
-    sort_picks(picks, lent)
+    sort_picks(read(file)?, lent)
 }
 
 // A house, its list, and the picks in order.
@@ -44,7 +36,7 @@ const ROWS: [Row; 6] = [
 ];
 
 fn entry(want: &[(u8, u8)], i: usize) -> (u8, u8) {
-    if i < want.len() { want[i] } else { (255, 255) }
+    want.get(i).copied().unwrap_or((255, 255))
 }
 
 #[test]
@@ -133,8 +125,6 @@ fn short_memory_is_refused(rt: HostRuntime) -> Result<(), Fail> {
         return Err(Fail::new("taken"));
     };
     assert_eq!(rt; (refusal.number(), refusal.place()), (9, 0));
-    for spot in &lent {
-        assert_eq!(rt; (spot.aisle, spot.depth), (255, 255));
-    }
+    assert_eq!(rt; lent, [OTHER; 511]);
     Ok(())
 }
