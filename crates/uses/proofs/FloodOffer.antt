@@ -1,14 +1,14 @@
 -- A spot that is offered to a flood: if it was not seen it is marked and waits. Assumes nothing.
-use Rattle.std.proofs.Common.{◌≡◌, ℕ, suc, ◌+◌, ◌*◌, ◌/◌, ◌%◌, ◌<◌, ◌≤◌, Bool, true, false, cond, not, ◌&&◌, ltb, ◌⊎◌, List, length, get_or, set, sym, refl, ap, ◌∙◌, subst, inl, inr, arith, ltb-false, ltb-true}
+use Rattle.std.proofs.Common.{◌≡◌, ℕ, suc, ◌+◌, ◌*◌, ◌/◌, ◌%◌, ◌<◌, ◌≤◌, Bool, true, false, cond, not, ◌&&◌, ltb, ◌⊎◌, List, [], ◌∷◌, ◌++◌, length, get_or, sym, refl, ap, ◌∙◌, subst, inl, inr, arith, ltb-false, ltb-true, length-append}
 use native.Mathlib.Decide.{ℕ_discrete}
 use lib.Arith.{digits_div, digits_mod}
-use Rattle.std.proofs.lemmas.List.{length-set, get_or-set_same, get_or-set_other}
+use Rattle.std.proofs.lemmas.List.{length-set, get_or-set_same, get_or-set_other, get_or_append_left}
+use Rattle.std.proofs.Math.Seq.{get_or-append_seam}
 use Rattle.house.specs.House.{House, Spot, spot, desk}
 use Rattle.house.specs.Reading.{spot_of}
 use Rattle.walk.specs.Steps.{Within}
 use Rattle.walk.specs.Marking.{cell, marked, has}
-use Rattle.uses.specs.Flood.{unseen, code_of, offered}
-use Rattle.uses.specs.declared.flood.Flood.{Flood}
+use Rattle.uses.specs.Flood.{Flooding, unseen, code_of, offered}
 use Rattle.uses.proofs.Floods.{Seen, spot_at, Reaches, Good, Grows, grows_none}
 use Rattle.uses.proofs.Unseen.{unseen_set}
 
@@ -24,15 +24,18 @@ cell_alone s t i j e =
 
 module _ (h : House) (us : List ℕ) where
   -- what an offer of a spot along n uses gives
-  pub record Offer (n : ℕ) (t : Spot) (f g : Flood) : Type 0 where
+  pub record Offer (n : ℕ) (t : Spot) (f g : Flooding) : Type 0 where
     pub good : Good h us g
     pub grows : Grows h us f g
     pub hit : 0 < n → Seen g t
 
   -- a spot of the house that was not seen is marked and waits
-  module _ (few : h.aisles ≤ 64) (low : h.deep ≤ 200) (f : Flood) (good : Good h us f) (t : Spot) (inside : Within h t) where
-    abbrev on : Flood
-    on = record { seen = marked f.seen t; stack = set f.stack f.top (code_of t); top = f.top + 1 }
+  module _ (few : h.aisles ≤ 64) (low : h.deep ≤ 200) (f : Flooding) (good : Good h us f) (t : Spot) (inside : Within h t) where
+    abbrev on : Flooding
+    on = record { seen = marked f.seen t; waiting = f.waiting ++ code_of t ∷ [] }
+
+    one_more : length on.waiting ≡ length f.waiting + 1
+    one_more = length-append f.waiting (code_of t ∷ [])
 
     cell_in : cell t < length f.seen
     cell_in = omega (arith, inside.aisle_in, inside.depth_in, good.flags)
@@ -57,34 +60,30 @@ module _ (h : House) (us : List ℕ) where
       one_less : unseen f.seen ≡ suc (unseen on.seen)
       one_less = unseen_set f.seen (cell t) cell_in new
 
-      top_in : f.top < length f.stack
-      top_in = omega (arith, one_less, good.room, good.places)
+      last_at : spot_at on (length f.waiting) ≡ t
+      last_at = ap spot_of (get_or-append_seam f.waiting (code_of t) [] (code_of desk))
 
-      top_at : spot_at on f.top ≡ t
-      top_at = ap spot_of (get_or-set_same f.stack f.top (code_of t) (code_of desk) top_in)
-
-      below_at : (j : ℕ) → j < f.top → spot_at on j ≡ spot_at f j
-      below_at j l = ap spot_of (get_or-set_other f.stack f.top j (code_of t) (code_of desk) (omega arith))
+      before_at : (j : ℕ) → j < length f.waiting → spot_at on j ≡ spot_at f j
+      before_at j l = ap spot_of (get_or_append_left f.waiting (code_of t ∷ []) (code_of desk) j l)
 
       marked_good : Reaches h us t → Good h us on
       marked_good link = record {
         flags = length-set f.seen (cell t) true ∙ good.flags;
-        places = length-set f.stack f.top (code_of t) ∙ good.places;
-        room = omega (arith, one_less, good.room);
         linked = λ s i k. elim (seen_or s i k) [ inl e ↦ subst (Reaches h us) e link | inr z ↦ good.linked s i z ];
-        waiting = λ j l. elim (ℕ_discrete j f.top) [
-          | yes e ↦ subst (λ s. Within h s × Seen on s) (sym (ap (spot_at on) e ∙ top_at)) (inside, seen_here)
+        waiting = λ j l. elim (ℕ_discrete j (length f.waiting)) [
+          | yes e ↦ subst (λ s. Within h s × Seen on s) (sym (ap (spot_at on) e ∙ last_at)) (inside, seen_here)
           | no n ↦
-              let k : j < f.top = omega arith in
-              subst (λ s. Within h s × Seen on s) (sym (below_at j k)) ((good.waiting j k).0, seen_still (spot_at f j) (good.waiting j k).1)
+              let k : j < length f.waiting = omega (arith, one_more) in
+              subst (λ s. Within h s × Seen on s) (sym (before_at j k)) ((good.waiting j k).0, seen_still (spot_at f j) (good.waiting j k).1)
         ];
       }
 
       marked_grows : Grows h us f on
       marked_grows = record {
         seen_on = seen_still;
-        waits_on = λ s w. (w.0, omega (arith, w.1), below_at w.0 w.1 ∙ w.2);
-        fresh = λ s i k. elim (seen_or s i k) [ inl e ↦ inr (f.top, omega arith, top_at ∙ e) | inr z ↦ inl z ];
+        waits_on = λ s w. (w.0, omega (arith, one_more, w.1), before_at w.0 w.1 ∙ w.2);
+        fresh = λ s i k. elim (seen_or s i k) [ inl e ↦ inr (length f.waiting, omega (arith, one_more), last_at ∙ e) | inr z ↦ inl z ];
+        less = omega (arith, one_more, one_less);
       }
 
     offer_by : (n : ℕ) (b c : Bool) → ltb 0 n ≡ b → has f.seen t ≡ c → (0 < n → Reaches h us t) → Offer n t f (cond (b && not c) on f)

@@ -1,5 +1,6 @@
 -- The cost of the uses in a slice: the steps of all aisles stand first and together, then the passages. Assumes nothing.
-use Rattle.std.proofs.Common.{◌≡◌, ℕ, zero, suc, ◌+◌, ◌-◌, ◌*◌, List, get_or, sym, refl, ap, ◌∙◌, suc-mul, add-one, arith}
+use Rattle.std.proofs.Common.{◌≡◌, ℕ, zero, suc, ◌+◌, ◌-◌, ◌*◌, ◌≤◌, List, length, get_or, take, drop, sum, sym, refl, ap, ◌∙◌, suc-mul, add-one, arith, length-drop, get_or-drop}
+use Rattle.std.proofs.lemmas.List.Sums.{sum_by_more}
 use Rattle.house.specs.House.{House}
 use Rattle.uses.specs.Held.{held, cost_in, aisles_cost, passages_in}
 use Rattle.uses.specs.Layout.{places, uses_in}
@@ -75,3 +76,25 @@ module _ (us : List ℕ) where
       let e : places h ≡ m + 2 * n = omega arith in
       let z : 0 + m ≡ m = omega arith in
       sym (ap (held us 0) e ∙ held_both 0 m (2 * n) ∙ ap (λ (k : ℕ). held us 0 m + held us k (2 * n)) z)
+
+  -- as the code adds them up
+  pub held_sum : (start n : ℕ) → start + n ≤ length us → held us start n ≡ sum (take n (drop start us))
+  held_sum start zero l = held_none start
+  held_sum start (suc n) l =
+      let e : suc n ≡ n + 1 = omega arith in
+      omega (
+        arith,
+        ap (held us start) e,
+        held_more start n,
+        held_sum start n (omega arith),
+        ap (λ (k : ℕ). sum (take k (drop start us))) e,
+        sum_by_more (λ (x : ℕ). x) (drop start us) n 0 (omega (arith, length-drop start us)),
+        get_or-drop start us n 0,
+      )
+
+  module _ (h : House) (room : places h ≤ length us) where
+    pub aisles_sum : sum (take (h.aisles * h.deep) us) ≡ aisles_cost h us
+    aisles_sum = sym (held_sum 0 (h.aisles * h.deep) (omega arith))
+
+    pub passages_sum : sum (take (2 * (h.aisles - 1)) (drop (h.aisles * h.deep) us)) ≡ passages_in h us
+    passages_sum = sym (held_sum (h.aisles * h.deep) (2 * (h.aisles - 1)) (omega arith))

@@ -1,5 +1,9 @@
 -- Uses are round exactly where every spot of the house keeps them so and every pick is seen from the desk. Assumes nothing.
-use Rattle.std.proofs.Common.{◌≡◌, ℕ, ◌%◌, ◌<◌, Bool, true, false, ◌&&◌, ◌||◌, eqb, List, length, get_or, Decides, sym, subst, arith}
+use Rattle.std.proofs.Common.{◌≡◌, ℕ, ◌+◌, ◌%◌, ◌<◌, Bool, true, false, ◌&&◌, ◌||◌, eqb, List, length, get_or, Decides, sym, ap, ◌∙◌, subst, arith, zero-add}
+use Rattle.std.specs.List.{list_all, range_with_len}
+use Rattle.std.proofs.lemmas.List.Elements.{All-get_or, All-from_get_or}
+use Rattle.std.proofs.lemmas.List.FromFn.{get_or-range_with_len, length-range_with_len}
+use Rattle.std.proofs.lemmas.List.Sums.{AllPass-from_list_all, list_all-from_AllPass}
 use Rattle.std.proofs.lemmas.List.{get_or_default}
 use Rattle.std.proofs.lemmas.Bool.Decides.{nat_tests}
 use Rattle.house.specs.House.{House, Spot, spot, desk}
@@ -10,7 +14,7 @@ use Rattle.walk.specs.Steps.{Within}
 use Rattle.walk.specs.Marking.{has}
 use Rattle.uses.specs.Flood.{TellsLinked}
 use Rattle.uses.specs.Layout.{uses_in}
-use Rattle.uses.specs.Rounding.{meeting, FineHouse, PicksSeen}
+use Rattle.uses.specs.Rounding.{meeting, fine, fine_aisle, fine_house, FineAisle, FineHouse, PicksSeen}
 use Rattle.uses.specs.Uses.{Round, Linked}
 use Rattle.uses.proofs.MeetSteps.{meeting_is}
 
@@ -31,6 +35,39 @@ pub picks_inside :
     (i : ℕ) → i < length (picks_of list) → Within (house_of h) (get_or (picks_of list) i desk)
 picks_inside h k list same aisles shelves =
     subst (λ (x : code.House). (i : ℕ) → i < length (picks_of list) → Within (house_of x) (get_or (picks_of list) i desk)) (sym same) (picks_within (house_of k) list aisles shelves)
+
+-- a test of all elements, by their places
+list_all_tells : {X : Type 0} (p : X → Bool) (xs : List X) (d : X) → Decides (list_all p xs) ((i : ℕ) → i < length xs → p (get_or xs i d) ≡ true)
+list_all_tells p xs d = (
+  λ e i l. All-get_or (λ x. p x ≡ true) xs i d l (AllPass-from_list_all p xs e),
+  λ f. list_all-from_AllPass p xs (All-from_get_or (λ x. p x ≡ true) xs d f),
+)
+
+-- a test of all numbers below n
+below_tells : (p : ℕ → Bool) (n : ℕ) → Decides (list_all p (range_with_len 0 n)) ((k : ℕ) → k < n → p k ≡ true)
+below_tells p n =
+    let long = length-range_with_len 0 n in
+    let at : (k : ℕ) → k < n → get_or (range_with_len 0 n) k 0 ≡ k = λ k l. get_or-range_with_len 0 n k 0 l ∙ zero-add k in
+    let tells = list_all_tells p (range_with_len 0 n) 0 in (
+      λ e k l. ap p (sym (at k l)) ∙ tells.0 e k (omega (arith, long)),
+      λ f. tells.1 (λ k l. let j : k < n = omega (arith, long) in ap p (at k j) ∙ f k j),
+    )
+
+-- the tests of the spots
+module _ (h : House) (us : List ℕ) (seen : List Bool) where
+  aisle_tells : (a : ℕ) → Decides (fine_aisle h us seen a) (FineAisle h us seen a)
+  aisle_tells a =
+      let tells = below_tells (λ y. fine h us seen (spot a y)) (h.deep + 1) in
+      (λ e y l. tells.0 e y (omega arith), λ f. tells.1 (λ y l. f y (omega arith)))
+
+  pub house_decides : {r : Bool} → r ≡ fine_house h us seen → Decides r (FineHouse h us seen)
+  house_decides is =
+      let tells = below_tells (fine_aisle h us seen) h.aisles in
+      (λ e a l. (aisle_tells a).0 (tells.0 (sym is ∙ e) a l), λ f. is ∙ tells.1 (λ a l. (aisle_tells a).1 (f a l)))
+
+-- and that of the picks
+pub seen_decides : (picks : List Spot) (seen : List Bool) {r : Bool} → r ≡ list_all (has seen) picks → Decides r (PicksSeen picks seen)
+seen_decides picks seen is = let tells = list_all_tells (has seen) picks desk in (λ e. tells.0 (sym is ∙ e), λ f. is ∙ tells.1 f)
 
 module _ (h : House) (picks : List Spot) (us : List ℕ) (seen : List Bool) (linked : TellsLinked h us seen) (inside : (i : ℕ) → i < length picks → Within h (get_or picks i desk)) where
   round_house : Round h picks (uses_in h us) → FineHouse h us seen

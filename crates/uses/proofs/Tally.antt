@@ -1,6 +1,7 @@
 -- Counting along a way, step by step: where its first i steps lead, and how often they use each edge. Assumes nothing.
-use Rattle.std.proofs.Common.{◌≡◌, ℕ, ◌+◌, ◌<◌, ◌≤◌, List, length, get_or, take, set, replicate, Some, None, sym, refl, ap, ◌∙◌, arith}
+use Rattle.std.proofs.Common.{◌≡◌, ℕ, ◌+◌, ◌<◌, ◌≤◌, List, length, get_or, take, set, replicate, Some, None, Err, Option, Result, sym, refl, ap, ◌∙◌, arith}
 use native.Mathlib.Decide.{dec_lt}
+use Rattle.std.specs.Option.{ok_or}
 use Rattle.std.proofs.lemmas.List.{take_more, take_all, get_or-set_same, get_or-set_other, get_or-replicate, get_or_past, length-replicate}
 use Rattle.house.specs.House.{House, Spot, desk}
 use Rattle.walk.specs.Steps.{Within, landing, follow}
@@ -22,6 +23,11 @@ all_zero n k = elim (dec_lt k n) [
   | yes l ↦ get_or-replicate n k 0 0 l
   | no l ↦ get_or_past (replicate n 0) k 0 (omega (arith, length-replicate {A = ℕ} n 0))
 ]
+
+-- an error in place of what is missing: nothing was there, and the error is the one that was given
+pub told_out : {X E : Type 0} (o : Option X) (e f : E) {r : Result X E} → r ≡ ok_or o e → r ≡ Err f → (o ≡ None) × (e ≡ f)
+told_out (Some x) e f p q = let z : ◌≡◌ {A = ℕ} 0 1 = cc in absurd (omega arith)
+told_out None e f p q = (refl, cc)
 
 module _ (h : House) (way : List ℕ) where
   -- after i steps the way is at a spot of the house

@@ -4,12 +4,11 @@ use Rattle.house.specs.House.{House, Spot}
 use Rattle.house.specs.Reading.{spot_of}
 use Rattle.house.specs.declared.layout.Spot as code
 use Rattle.walk.specs.Steps.{landing}
-use Rattle.uses.specs.Flood.{code_of, offered, tried}
+use Rattle.uses.specs.Flood.{Flooding, code_of, offered, tried}
 use Rattle.uses.specs.Layout.{held_in}
 use Rattle.uses.specs.Looking.{edge_by, Sees}
-use Rattle.uses.specs.declared.flood.Flood.{Flood}
 
-module _ (h : House) (us : List ℕ) (s : Spot) (b : ℕ) (f : Flood) where
+module _ (h : House) (us : List ℕ) (s : Spot) (b : ℕ) (f : Flooding) where
   pub tried_out : landing h s b ≡ None → tried h us s b f ≡ f
   unfolding tried
   tried_out l = rw (l, tried)

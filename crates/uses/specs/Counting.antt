@@ -1,6 +1,6 @@
 -- How often a row of steps uses each edge, and what is answered where that is counted into a slice.
 -- Assumes nothing: these are definitions.
-use Rattle.std.specs.Prelude.{◌≡◌, ℕ, ◌+◌, ◌≤◌, Bool, true, false, List, [], ◌∷◌, length, take, Some, None, Ok, Err, Option, Result, slice_index, slice_set}
+use Rattle.std.specs.Prelude.{◌≡◌, ℕ, ◌+◌, ◌≤◌, List, [], ◌∷◌, length, take, Some, None, Ok, Err, Option, Result, slice_index, slice_set}
 use Rattle.graph.specs.Graph.{one}
 use Rattle.house.specs.House.{House, Spot, desk}
 use Rattle.house.specs.Rules.{or_else}
@@ -40,9 +40,9 @@ abbrev pub count_rule : House → List ℕ → ℕ → Option Refusal
 count_rule h way len = or_else (room_rule len) (or_else (step_rule way) (exit_rule h way))
 
 -- one use more at a place, or an entry that is full
-abbrev pub Adds : List ℕ → ℕ → List ℕ → Bool → Type 0
-Adds before entry after true = after ≡ slice_set before entry (slice_index before entry + 1)
-Adds before entry after false = (slice_index before entry ≡ 255) × (after ≡ before)
+abbrev pub Adds : List ℕ → ℕ → List ℕ → Option Unit → Type 0
+Adds before entry after (Some _) = after ≡ slice_set before entry (slice_index before entry + 1)
+Adds before entry after None = (slice_index before entry ≡ 255) × (after ≡ before)
 
 -- counting from nothing, held to the steps that lead out alone
 abbrev pub Tallies : House → List ℕ → List ℕ → Result Unit Miscount → Type 0

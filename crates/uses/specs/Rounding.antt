@@ -1,6 +1,7 @@
 -- Which spots of the house keep round uses: those where an even number meets, and that are seen from the desk if one does.
 -- Assumes nothing: these are definitions.
 use Rattle.std.specs.Prelude.{◌≡◌, ℕ, ◌+◌, ◌%◌, ◌<◌, ◌≤◌, Bool, true, ◌&&◌, ◌||◌, List, length, Some, None, Ok, Err, Decides, Result, ◌==◌, slice_index_or}
+use Rattle.std.specs.List.{list_all, range_with_len}
 use Rattle.house.specs.House.{House, Spot, spot, desk}
 use Rattle.house.specs.declared.refusal.Refusal.{Refusal}
 use Rattle.walk.specs.Steps.{landing}
@@ -26,6 +27,13 @@ FineAisle h us seen a = (y : ℕ) → y ≤ h.deep → fine h us seen (spot a y)
 
 abbrev pub FineHouse : House → List ℕ → List Bool → Type 0
 FineHouse h us seen = (a : ℕ) → a < h.aisles → FineAisle h us seen a
+
+-- the same as tests
+abbrev pub fine_aisle : House → List ℕ → List Bool → ℕ → Bool
+fine_aisle h us seen a = list_all (λ y. fine h us seen (spot a y)) (range_with_len 0 (h.deep + 1))
+
+abbrev pub fine_house : House → List ℕ → List Bool → Bool
+fine_house h us seen = list_all (λ a. fine_aisle h us seen a) (range_with_len 0 h.aisles)
 
 abbrev pub PicksSeen : List Spot → List Bool → Type 0
 PicksSeen picks seen = (i : ℕ) → i < length picks → has seen (slice_index_or picks i desk) ≡ true

@@ -17,10 +17,7 @@ use walk::{Step, only_steps};
 fn look_by(house: House, from: Spot, byte: u8) -> Option<(usize, Spot)>
     ensures { Looks (house_of house) (spot_of from) byte result }
 {
-    let Some(step) = Step::of(byte) else {
-        return None;
-    };
-    look(house, from, step)
+    look(house, from, Step::try_from(byte).ok()?)
 }
 
 // Holds each step of a way to the house.
@@ -29,24 +26,18 @@ fn stays_in<'a>(house: House, way: &'a [u8]) -> Result<&'a [u8], Refusal>
 {
     let mut at = Spot { aisle: 0, depth: 0 };
     for (i, byte) in way.iter().enumerate() {
-        let Some((_, next)) = look_by(house, at, *byte) else {
-            return Err(Refusal::LeadsOut(i));
-        };
-        at = next;
+        (_, at) = look_by(house, at, *byte).ok_or(Refusal::LeadsOut(i))?;
     }
     Ok(way)
 }
 
 // One use more, where the entry can hold it.
-fn add(counts: &mut [u8], entry: usize) -> bool
+fn add(counts: &mut [u8], entry: usize) -> Option<()>
     requires { entry < length counts.old }
     ensures { Adds counts.old entry counts.new result }
 {
-    if counts[entry] == 255 {
-        return false;
-    }
-    counts[entry] += 1;
-    true
+    counts[entry] = counts[entry].checked_add(1)?;
+    Some(())
 }
 
 // Counts the uses of a way into entries that are all 0.
@@ -56,12 +47,8 @@ fn tally(house: House, way: &[u8], counts: &mut [u8]) -> Result<(), Miscount>
 {
     let mut at = Spot { aisle: 0, depth: 0 };
     for (i, byte) in way.iter().enumerate() {
-        let Some((entry, next)) = look_by(house, at, *byte) else {
-            return Err(Miscount::Refused(Refusal::LeadsOut(i)));
-        };
-        if !add(counts, entry) {
-            return Err(Miscount::Overfull(i));
-        }
+        let (entry, next) = look_by(house, at, *byte).ok_or(Refusal::LeadsOut(i))?;
+        add(counts, entry).ok_or(Miscount::Overfull(i))?;
         at = next;
     }
     Ok(())
@@ -74,17 +61,6 @@ fn countable<'a>(house: House, way: &'a [u8], len: usize) -> Result<&'a [u8], Re
     enough(len)?;
     let way = only_steps(way)?;
     stays_in(house, way)
-}
-
-// Takes over the first n counts.
-fn take_over(counts: &[u8], n: usize, uses: &mut [u8])
-    requires { (n ≤ length counts.now) × (n ≤ length uses.old) }
-    ensures taken { (k : ℕ) → k < n → slice_index uses.new k ≡ slice_index counts.now k }
-    ensures kept { (k : ℕ) → n ≤ k → slice_index uses.new k ≡ slice_index uses.old k }
-{
-    for i in 0..n {
-        uses[i] = counts[i];
-    }
 }
 
 // How often the way, from the desk, uses each stretch of the house. A refusal leaves the slice as it was.
@@ -102,6 +78,7 @@ fn count_into(house: House, way: &[u8], uses: &mut [u8]) -> Result<(), Miscount>
 {
     let mut counts = [0; ROOM];
     tally(house, way, &mut counts)?;
-    take_over(&counts, places(house), uses);
+    let n = places(house);
+    uses[..n].copy_from_slice(&counts[..n]);
     Ok(())
 }

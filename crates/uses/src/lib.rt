@@ -13,6 +13,7 @@ mod meets;
 mod miscount;
 mod room;
 mod rounding;
+mod stack;
 mod theorems;
 
 pub use costing::cost;

@@ -23,11 +23,10 @@ impl Crossing<'_> {
     pub(crate) fn meeting(self) -> u16
         ensures { result ≡ meeting (house_of self.entry.house) self.entry.entries.now (spot_of self.entry.at) }
     {
-        self.used(Step::Deeper)
-            + self.used(Step::Back)
-            + self.used(Step::NextFront)
-            + self.used(Step::BeforeFront)
-            + self.used(Step::NextBack)
-            + self.used(Step::BeforeBack)
+        let mut uses = 0;
+        for step in Step::ALL {
+            uses += self.used(step);
+        }
+        uses
     }
 }

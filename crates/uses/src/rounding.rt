@@ -2,9 +2,10 @@
 ghost use Rattle.std.specs.Prelude.{◌≡◌, ◌<◌, Decides};
 ghost use Rattle.house.specs.Bounds.{picks_of};
 ghost use Rattle.house.specs.Reading.{house_of, spot_of};
+ghost use Rattle.walk.specs.Steps.{Within};
 ghost use Rattle.uses.specs.Flood.{TellsLinked};
 ghost use Rattle.uses.specs.Layout.{uses_in};
-ghost use Rattle.uses.specs.Rounding.{fine, FineAisle, FineHouse, PicksSeen, TellsRound};
+ghost use Rattle.uses.specs.Rounding.{fine, fine_aisle, fine_house, PicksSeen, TellsRound};
 ghost use Rattle.uses.specs.Uses.{Round};
 
 use crate::crossing::Crossing;
@@ -13,39 +14,27 @@ use crate::flooding::flood;
 use crate::house_uses::HouseUses;
 use house::{PickList, Refusal, Spot};
 
-impl Crossing<'_> {
-    // An even number of uses meets at the spot, and if one does, the spot is seen.
-    fn is_fine(self, flood: &Flood) -> bool
-        ensures { result ≡ fine (house_of self.entry.house) self.entry.entries.now flood.now.seen (spot_of self.entry.at) }
-    {
-        let n = self.meeting();
-        n % 2 == 0 && (n == 0 || flood.has(self.at))
-    }
+// An even number of uses meets at the spot, and if one does, the spot is seen.
+fn is_fine(uses: HouseUses<'_>, flood: &Flood, at: Spot) -> bool
+    requires { Within (house_of uses.house) (spot_of at) }
+    ensures { result ≡ fine (house_of uses.entry.house) uses.entry.entries.now flood.now.seen (spot_of at) }
+{
+    let HouseUses { house, entries } = uses;
+    let n = Crossing { house, entries, at }.meeting();
+    n % 2 == 0 && (n == 0 || flood.has(at))
 }
 
 fn is_fine_aisle(uses: HouseUses<'_>, flood: &Flood, aisle: u8) -> bool
     requires { aisle < uses.house.aisles }
-    ensures { Decides result (FineAisle (house_of uses.entry.house) uses.entry.entries.now flood.now.seen aisle) }
+    ensures { result ≡ fine_aisle (house_of uses.entry.house) uses.entry.entries.now flood.now.seen aisle }
 {
-    let HouseUses { house, entries } = uses;
-    for depth in 0..=house.deep {
-        let at = Spot { aisle, depth };
-        if !(Crossing { house, entries, at }).is_fine(flood) {
-            return false;
-        }
-    }
-    true
+    (0..uses.house.deep + 1).all(|depth| is_fine(uses, flood, Spot { aisle, depth }))
 }
 
 fn is_fine_house(uses: HouseUses<'_>, flood: &Flood) -> bool
-    ensures { Decides result (FineHouse (house_of uses.entry.house) uses.entry.entries.now flood.now.seen) }
+    ensures { result ≡ fine_house (house_of uses.entry.house) uses.entry.entries.now flood.now.seen }
 {
-    for aisle in 0..uses.house.aisles {
-        if !is_fine_aisle(uses, flood, aisle) {
-            return false;
-        }
-    }
-    true
+    (0..uses.house.aisles).all(|aisle| is_fine_aisle(uses, flood, aisle))
 }
 
 fn are_seen(picks: PickList<'_>, flood: &Flood) -> bool
