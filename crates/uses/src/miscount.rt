@@ -4,7 +4,7 @@ ghost use Rattle.uses.specs.declared.miscount.Miscount.TheVariants.{Refused};
 
 use house::Refusal;
 
-#[derive(Clone, Copy)]
+#[derive(Clone, Copy, Debug, PartialEq, Eq)]
 pub enum Miscount {
     Refused(Refusal),
     // the step with which a stretch is used more than 255 times

@@ -40,15 +40,7 @@ fn is_fine_house(uses: HouseUses<'_>, flood: &Flood) -> bool
 fn are_seen(picks: PickList<'_>, flood: &Flood) -> bool
     ensures { Decides result (PicksSeen (picks_of picks.entry.bytes.now) flood.now.seen) }
 {
-    for i in 0..picks.len() {
-        let Some(pick) = picks.get(i) else {
-            return true;
-        };
-        if !flood.has(pick) {
-            return false;
-        }
-    }
-    true
+    picks.iter().all(|pick| flood.has(pick))
 }
 
 // By the spots that are linked with the desk.

@@ -3,12 +3,12 @@
 
 #[cfg(test)]
 mod tests {
-    use house::{House, PickList, Refusal, claim_of, read_claim};
+    use house::{House, Memory, Refusal, read_claim};
+    use std::array;
     use std::process::Abort;
     use std::test::Fail;
-    use uses::{Miscount, cost, count, is_round};
+    use uses::{Miscount, ROOM, cost, count, is_round};
 
-    const ROOM: usize = 12926;
     // what every entry holds before counting
     const BEFORE: u8 = 7;
 
@@ -59,54 +59,37 @@ mod tests {
 
     // Whether uses are round for the house and the picks of a claim.
     fn tell(claim: &[u8], uses: &[u8]) -> Result<bool, Refusal> {
-        let checked = read_claim(claim);
-        let Ok(house) = checked else {
-            return Err(checked.unwrap_err());
-        };
-        let picks = PickList {
-            house,
-            bytes: claim_of(claim).list,
-        };
-        is_round(picks, uses)
+        is_round(read_claim(claim)?.picks, uses)
     }
 
     fn round(claim: &[u8], uses: &[u8]) -> bool {
-        let Ok(told) = tell(claim, uses) else {
-            return false;
-        };
-        told
+        tell(claim, uses) == Ok(true)
     }
 
     // A shortest way leaves no use out: without one an odd number meets somewhere, and without both uses of a stretch a piece is cut off.
-    fn check_each_use(rt: &impl Abort, tour: &Tour, uses: &mut [u8; ROOM]) {
-        for place in 0..ROOM {
-            let used = uses[place];
+    fn check_each_use(rt: &impl Abort, tour: &Tour, counted: &[u8; ROOM]) {
+        let mut uses = *counted;
+        for (place, used) in counted.iter().enumerate() {
             if place >= tour.places {
-                assert_eq!(rt; used, BEFORE);
+                assert_eq!(rt; *used, BEFORE);
             } else {
-                for fewer in 0..used {
+                for fewer in 0..*used {
                     uses[place] = fewer;
-                    assert!(rt; !round(tour.claim, uses), "{fewer} at {place}");
+                    assert!(rt; !round(tour.claim, &uses), "{fewer} at {place}");
                 }
-                uses[place] = used;
+                uses[place] = *used;
             }
         }
     }
 
     fn check_tour(rt: &impl Abort, tour: &Tour) -> Result<(), Fail> {
-        let Ok(house) = read_claim(tour.claim) else {
-            return Err(Fail::new("refused"));
-        };
+        let claimed = read_claim(tour.claim)?;
+        let house = claimed.picks.house;
         let mut uses = [BEFORE; ROOM];
-        let Ok(_) = count(house, claim_of(tour.claim).way, &mut uses) else {
-            return Err(Fail::new("not counted"));
-        };
-        let Ok(length) = cost(house, &uses) else {
-            return Err(Fail::new("no cost"));
-        };
-        assert_eq!(rt; length, tour.length);
+        count(house, claimed.way, &mut uses)?;
+        assert_eq!(rt; cost(house, &uses)?, tour.length);
         assert!(rt; round(tour.claim, &uses), "length {}", tour.length);
-        check_each_use(rt, tour, &mut uses);
+        check_each_use(rt, tour, &uses);
         Ok(())
     }
 
@@ -159,10 +142,8 @@ mod tests {
     fn lay(runs: &[(usize, usize, u8)]) -> [u8; ROOM] {
         let mut uses = [0; ROOM];
         for (from, to, used) in runs {
-            for place in *from..*to {
-                if place < ROOM {
-                    uses[place] = *used;
-                }
+            if let Some(run) = uses.get_mut(*from..*to) {
+                run.fill(*used);
             }
         }
         uses
@@ -172,112 +153,68 @@ mod tests {
     fn linked_or_cut_off(rt: HostRuntime) -> Result<(), Fail> {
         for Pieces(claim, runs, length, is) in &PIECES {
             let uses = lay(runs);
-            let Ok(house) = read_claim(claim) else {
-                return Err(Fail::new("refused"));
-            };
-            let Ok(found) = cost(house, &uses) else {
-                return Err(Fail::new("no cost"));
-            };
-            assert_eq!(rt; found, *length, "{claim:?}");
+            let house = read_claim(claim)?.picks.house;
+            assert_eq!(rt; cost(house, &uses)?, *length, "{claim:?}");
             assert_eq!(rt; round(claim, &uses), *is, "{claim:?}, length {length}");
         }
         Ok(())
     }
 
-    #[derive(Clone, Copy, PartialEq, Eq, Debug)]
-    enum Answer {
-        Counted,
-        // a number and a place
-        Refused(u8, usize),
-        Overfull(usize),
-    }
+    const HOUSE: House = House {
+        aisles: 2,
+        deep: 10,
+        apart: 3,
+    };
 
-    fn told(counted: Result<(), Miscount>) -> Answer {
-        match counted {
-            Ok(_) => Answer::Counted,
-            Err(Miscount::Refused(refusal)) => Answer::Refused(refusal.number(), refusal.place()),
-            Err(Miscount::Overfull(step)) => Answer::Overfull(step),
-        }
-    }
+    const TOO_SHORT: Refusal = Refusal::Short(Memory::Uses);
 
     // A refusal leaves every entry as it was.
-    fn check_refused(rt: &impl Abort, way: &[u8], uses: &mut [u8], want: Answer) {
-        let house = House {
-            aisles: 2,
-            deep: 10,
-            apart: 3,
-        };
-        assert_eq!(rt; told(count(house, way, uses)), want);
-        for entry in uses.iter() {
-            assert_eq!(rt; *entry, BEFORE);
-        }
+    fn check_miscount(rt: &impl Abort, way: &[u8], uses: &mut [u8], why: Miscount) {
+        assert_eq!(rt; count(HOUSE, way, uses), Err(why));
+        assert!(rt; uses.iter().all(|entry| *entry == BEFORE));
+    }
+
+    fn check_refused(rt: &impl Abort, way: &[u8], uses: &mut [u8], refusal: Refusal) {
+        check_miscount(rt, way, uses, Miscount::Refused(refusal));
     }
 
     // A slice without room for any house has no cost, and nothing is told of it.
-    fn check_short(rt: &impl Abort, uses: &[u8]) -> Result<(), Fail> {
-        let house = House {
-            aisles: 2,
-            deep: 10,
-            apart: 3,
-        };
-        let Err(refusal) = cost(house, uses) else {
-            return Err(Fail::new("a cost"));
-        };
-        assert_eq!(rt; (refusal.number(), refusal.place()), (9, 3));
-        let Err(refusal) = tell(&[2, 10, 3, 0, 0], uses) else {
-            return Err(Fail::new("told"));
-        };
-        assert_eq!(rt; (refusal.number(), refusal.place()), (9, 3));
-        Ok(())
+    fn check_short(rt: &impl Abort, uses: &[u8]) {
+        assert_eq!(rt; cost(HOUSE, uses), Err(TOO_SHORT));
+        assert_eq!(rt; tell(&[2, 10, 3, 0, 0], uses), Err(TOO_SHORT));
     }
 
     #[test]
     fn refusals(rt: HostRuntime) {
         let mut uses = [BEFORE; ROOM];
-        check_refused(&rt, &[0, 6, 9], &mut uses, Answer::Refused(7, 1));
-        check_refused(&rt, &[1, 0, 6], &mut uses, Answer::Refused(7, 2));
-        check_refused(&rt, &[1, 0], &mut uses, Answer::Refused(8, 0));
-        check_refused(&rt, &[0, 2], &mut uses, Answer::Refused(8, 1));
-        check_refused(&rt, &[2, 2], &mut uses, Answer::Refused(8, 1));
-        check_refused(&rt, &[6], &mut uses[0..ROOM - 1], Answer::Refused(9, 3));
-        check_refused(&rt, &[], &mut uses[0..0], Answer::Refused(9, 3));
+        check_refused(&rt, &[0, 6, 9], &mut uses, Refusal::NoStep(1));
+        check_refused(&rt, &[1, 0, 6], &mut uses, Refusal::NoStep(2));
+        check_refused(&rt, &[1, 0], &mut uses, Refusal::LeadsOut(0));
+        check_refused(&rt, &[0, 2], &mut uses, Refusal::LeadsOut(1));
+        check_refused(&rt, &[2, 2], &mut uses, Refusal::LeadsOut(1));
+        check_refused(&rt, &[6], &mut uses[0..ROOM - 1], TOO_SHORT);
+        check_refused(&rt, &[], &mut [], TOO_SHORT);
     }
 
     #[test]
-    fn short_slices(rt: HostRuntime) -> Result<(), Fail> {
-        check_short(&rt, &[0; 12925])?;
-        check_short(&rt, &[])
-    }
-
-    // To and fro along one stretch.
-    fn to_and_fro() -> [u8; 300] {
-        let mut way = [0; 300];
-        for i in 0..300 {
-            way[i] = (i % 2) as u8;
-        }
-        way
+    fn short_slices(rt: HostRuntime) {
+        check_short(&rt, &[0; ROOM - 1]);
+        check_short(&rt, &[]);
     }
 
     // An entry holds 255 uses, and what a later step breaks comes first.
     #[test]
     fn overfull(rt: HostRuntime) {
-        let mut way = to_and_fro();
+        // to and fro along one stretch
+        let mut way: [u8; 300] = array::from_fn(|i| (i % 2) as u8);
         let mut uses = [BEFORE; ROOM];
-        check_refused(&rt, &way, &mut uses, Answer::Overfull(255));
-        check_refused(&rt, &way[0..256], &mut uses, Answer::Overfull(255));
+        check_miscount(&rt, &way, &mut uses, Miscount::Overfull(255));
+        check_miscount(&rt, &way[0..256], &mut uses, Miscount::Overfull(255));
         way[299] = 5;
-        check_refused(&rt, &way, &mut uses, Answer::Refused(8, 299));
+        check_refused(&rt, &way, &mut uses, Refusal::LeadsOut(299));
         way[298] = 6;
-        check_refused(&rt, &way, &mut uses, Answer::Refused(7, 298));
-        let house = House {
-            aisles: 2,
-            deep: 10,
-            apart: 3,
-        };
-        assert_eq!(rt;
-            told(count(house, &way[0..255], &mut uses)),
-            Answer::Counted
-        );
+        check_refused(&rt, &way, &mut uses, Refusal::NoStep(298));
+        assert_eq!(rt; count(HOUSE, &way[0..255], &mut uses), Ok(()));
         assert_eq!(rt; uses[0], 255);
     }
 }
