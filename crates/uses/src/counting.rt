@@ -11,7 +11,7 @@ use crate::looking::look;
 use crate::miscount::Miscount;
 use crate::room::{ROOM, enough};
 use house::{House, Refusal, Spot};
-use walk::{Step, only_steps};
+use walk::{DESK, Step, only_steps};
 
 // What a byte of a way leads along from a spot. A byte that is no step leads out too.
 fn look_by(house: House, from: Spot, byte: u8) -> Option<(usize, Spot)>
@@ -24,7 +24,7 @@ fn look_by(house: House, from: Spot, byte: u8) -> Option<(usize, Spot)>
 fn stays_in<'a>(house: House, way: &'a [u8]) -> Result<&'a [u8], Refusal>
     ensures { PassesOn way.now (exit_rule (house_of house) way.now) result }
 {
-    let mut at = Spot { aisle: 0, depth: 0 };
+    let mut at = DESK;
     for (i, byte) in way.iter().enumerate() {
         (_, at) = look_by(house, at, *byte).ok_or(Refusal::LeadsOut(i))?;
     }
@@ -45,7 +45,7 @@ fn tally(house: House, way: &[u8], counts: &mut [u8]) -> Result<(), Miscount>
     requires { counts.old ≡ replicate 12926 0 }
     ensures { Tallies (house_of house) way.now counts.new result }
 {
-    let mut at = Spot { aisle: 0, depth: 0 };
+    let mut at = DESK;
     for (i, byte) in way.iter().enumerate() {
         let (entry, next) = look_by(house, at, *byte).ok_or(Refusal::LeadsOut(i))?;
         add(counts, entry).ok_or(Miscount::Overfull(i))?;

@@ -2,7 +2,7 @@
 ghost use Rattle.std.specs.Prelude.{◌≡◌, ◌<◌, ◌≤◌};
 ghost use Rattle.house.specs.Reading.{house_of, spot_of};
 ghost use Rattle.walk.specs.Codes.{byte_of};
-ghost use Rattle.walk.specs.Marking.{cell, has};
+ghost use Rattle.walk.specs.Marking.{has};
 ghost use Rattle.uses.specs.Flood.{Flooding, left, offered, tried, spread, dry, Pops};
 
 use crate::crossing::Crossing;
@@ -10,7 +10,7 @@ use crate::looking::look;
 use crate::stack::Stack;
 use house::Spot;
 use std::marker::Model;
-use walk::Step;
+use walk::{Step, cell};
 
 #[derive(Drop)]
 pub(crate) struct Flood {
@@ -81,11 +81,4 @@ impl Flood {
             self.try_step(from, step);
         }
     }
-}
-
-// The place of a spot's flag.
-fn cell(spot: Spot) -> usize
-    ensures { result ≡ cell (spot_of spot) }
-{
-    201 * spot.aisle as usize + spot.depth as usize
 }

@@ -5,7 +5,7 @@ ghost use Rattle.uses.specs.Flood.{TellsLinked};
 use crate::crossing::Crossing;
 use crate::flood::Flood;
 use crate::house_uses::HouseUses;
-use house::Spot;
+use walk::DESK;
 
 // Marks all spots that are linked with the desk.
 pub(crate) fn flood(uses: HouseUses<'_>) -> Flood
@@ -13,7 +13,7 @@ pub(crate) fn flood(uses: HouseUses<'_>) -> Flood
 {
     let HouseUses { house, entries } = uses;
     let mut flood = Flood::new();
-    flood.offer(1, Spot { aisle: 0, depth: 0 });
+    flood.offer(1, DESK);
     while let Some(at) = flood.pop() {
         flood.leave(Crossing { house, entries, at });
     }

@@ -4,6 +4,7 @@ ghost use Rattle.house.specs.declared.layout.Spot as spot;
 
 use house::Spot;
 use std::marker::Model;
+use walk::DESK;
 
 #[derive(Drop)]
 pub(crate) struct Stack {
@@ -25,7 +26,7 @@ impl Stack {
         ensures { result ≡ [] }
     {
         Stack {
-            spots: [Spot { aisle: 0, depth: 0 }; 12864],
+            spots: [DESK; 12864],
             top: 0,
         }
     }
