@@ -1,43 +1,24 @@
--- The list of a file that is not refused fits its house. Assumes nothing.
-use Rattle.std.proofs.Common.{◌≡◌, ℕ, ◌≤◌, List, length, None, Option, sym, ap, ◌∙◌, arith}
-use Rattle.house.specs.House.{House, desk}
-use Rattle.house.specs.Bounds.{Whole, InAisles, OnShelves}
-use Rattle.house.specs.Reading.{house_in, house_rule, list_in, list_rule, claimed_list, claim_rule}
-use Rattle.house.specs.Rules.{or_else}
+-- The picks of a list that no rule for picks refuses lie in the aisles and on the shelves. Assumes nothing.
+use Rattle.std.proofs.Common.{◌≡◌, ℕ, ◌<◌, Bool, false, List, length, get_or, Some, None, Option, arith}
+use Rattle.std.proofs.lemmas.Bool.Decides.{nat_tests}
+use Rattle.house.specs.House.{Spot, desk}
+use Rattle.house.specs.Bounds.{picks_of, InAisles, OnShelves}
+use Rattle.house.specs.Rules.{aisle_rule, shelf_rule, at_pick, absent, outside}
 use Rattle.house.specs.declared.refusal.Refusal.{Refusal}
-use Rattle.house.specs.Promise.{Accepted}
-use Rattle.house.proofs.Accept.{reading_is_exact, claims_are_exact}
+use Rattle.house.specs.declared.refusal.Refusal.TheVariants.{NoAisle, NoShelf}
+use Rattle.house.proofs.Found.{Finds, first_finds}
 
--- what a pick list's type says
-pub record Fits (h : House) (list : List ℕ) : Type 0 where
-  pub whole : Whole list
-  pub few : length list ≤ 1024
-  pub in_aisles : InAisles h.aisles list
-  pub on_shelves : OnShelves h.deep list
+-- where a rule at each pick refuses none, its test finds none
+none_found : (test : Spot → Bool) (refusal : ℕ → Refusal) (picks : List Spot) (o : Option ℕ) → Finds test 0 picks o → at_pick refusal o ≡ None → (i : ℕ) → i < length picks → test (get_or picks i desk) ≡ false
+none_found test refusal picks None f e = f
+none_found test refusal picks (Some n) f e = absurd (cc)
 
-accepted_fits : {h : House} {list : List ℕ} → Accepted h list → Fits h list
-accepted_fits a =
-    record {
-      whole = a.whole;
-      few = omega (arith, a.whole, a.few);
-      in_aisles = λ i k. (a.sound.inside i desk k).0;
-      on_shelves = λ i k. ((a.sound.inside i desk k).1, (a.sound.inside i desk k).2);
-    }
+pub kept_in_aisles : (aisles : ℕ) (list : List ℕ) → aisle_rule aisles list ≡ None → InAisles aisles list
+kept_in_aisles aisles list kept i h =
+    let fails = none_found (absent aisles) NoAisle (picks_of list) _ (first_finds (absent aisles) 0 (picks_of list)) kept i h in
+    grind (arith, nat_tests)
 
--- neither rule refuses
-both_kept : {first next : Option Refusal} → first ≡ None → next ≡ None → or_else first next ≡ None
-both_kept first next = rw first next
-
--- the house of a file that keeps the house's rules, with a list that keeps the list's
-pub plan_fits : (file : List ℕ) {h : House} {list : List ℕ} → (h ≡ house_in file) × (house_rule file ≡ None) → list ≡ list_in file → list_rule h list ≡ None → Fits h list
-plan_fits file {h} (same_house, kept) same_list keeps = rw (same_house, same_list) (accepted_fits ((reading_is_exact file).1 (both_kept kept listed)))
-  where
-    listed : list_rule (house_in file) (list_in file) ≡ None
-    listed = sym (ap (λ (k : House). list_rule k (list_in file)) same_house) ∙ ap (list_rule h) (sym same_list) ∙ keeps
-
--- and with the list of a claim that keeps the claim's
-pub claim_fits : (file : List ℕ) {h : House} {list : List ℕ} → (h ≡ house_in file) × (house_rule file ≡ None) → (list ≡ claimed_list file) × (claim_rule h file ≡ None) → Fits h list
-claim_fits file {h} (same_house, kept) (same_list, keeps) = rw (same_house, same_list) (accepted_fits ((claims_are_exact file).1 (both_kept kept claimed)).0)
-  where
-    claimed : claim_rule (house_in file) file ≡ None
-    claimed = sym (ap (λ (k : House). claim_rule k file) same_house) ∙ keeps
+pub kept_on_shelves : (deep : ℕ) (list : List ℕ) → shelf_rule deep list ≡ None → OnShelves deep list
+kept_on_shelves deep list kept i h =
+    let fails = none_found (outside deep) NoShelf (picks_of list) _ (first_finds (outside deep) 0 (picks_of list)) kept i h in
+    (grind (arith, nat_tests), grind (arith, nat_tests))

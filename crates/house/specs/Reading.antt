@@ -82,10 +82,14 @@ abbrev pub ReadsHouse : List ℕ → Option Refusal → Result House Refusal →
 ReadsHouse file rule (Ok h) = (house_of h ≡ house_in file) × (rule ≡ None)
 ReadsHouse file rule (Err e) = rule ≡ Some e
 
+-- a check that makes a pick list of a house and a list, or refuses by its rule
+abbrev pub MakesPicks : ideal.House → List ℕ → Option Refusal → Result PickList Refusal → Type 0
+MakesPicks h list rule (Ok p) = (house_of p.house ≡ h) × (rule ≡ None) × (p.bytes.now ≡ list)
+MakesPicks h list rule (Err e) = rule ≡ Some e
+
 -- a reader that hands on the file's house with its list, or refuses by its rule
 abbrev pub ReadsPicks : List ℕ → Option Refusal → Result PickList Refusal → Type 0
-ReadsPicks file rule (Ok p) = (house_of p.house ≡ house_in file) × (rule ≡ None) × (p.bytes.now ≡ list_in file)
-ReadsPicks file rule (Err e) = rule ≡ Some e
+ReadsPicks file rule result = MakesPicks (house_in file) (list_in file) rule result
 
 -- a reader that hands on the house, the list and the way of a claim, or refuses by its rule
 abbrev pub ReadsClaim : List ℕ → Option Refusal → Result ClaimedWay Refusal → Type 0

@@ -1,5 +1,7 @@
 // The readers of the two sorts of files: a pick list to plan, and a way that is claimed to be a tour.
-ghost use Rattle.house.specs.Reading.{ReadsHouse, ReadsPicks, ReadsClaim, PassesOn, house_of, house_rule, picks_rule, list_rule, claim_rule, refusal_of, claim_refusal_of, claimed_list};
+ghost use Rattle.std.specs.Prelude.{◌≤◌, length};
+ghost use Rattle.house.specs.Bounds.{Whole};
+ghost use Rattle.house.specs.Reading.{ReadsHouse, MakesPicks, ReadsPicks, ReadsClaim, house_of, house_rule, picks_rule, list_rule, claim_rule, refusal_of, claim_refusal_of, claimed_list};
 
 use crate::checks::{
     aisle_count, aisle_depth, aisle_distance, counted_list, in_aisles, on_shelves, whole_list,
@@ -14,8 +16,7 @@ pub fn read(file: &[u8]) -> Result<PickList<'_>, Refusal>
     ensures { ReadsPicks file.now (refusal_of file.now) result }
 {
     let house = read_house(file)?;
-    let bytes = listed(house, list_of(file))?;
-    Ok(PickList { house, bytes })
+    listed(house, list_of(file))
 }
 
 // Holds the house and the pick list of a file that claims a way to every rule, and hands on the list and the way.
@@ -23,9 +24,9 @@ pub fn read_claim(file: &[u8]) -> Result<ClaimedWay<'_>, Refusal>
     ensures { ReadsClaim file.now (claim_refusal_of file.now) result }
 {
     let house = read_house(file)?;
-    let bytes = claimed(house, file)?;
+    let picks = claimed(house, file)?;
     Ok(ClaimedWay {
-        picks: PickList { house, bytes },
+        picks,
         way: claim_of(file).way,
     })
 }
@@ -40,21 +41,25 @@ fn read_house(file: &[u8]) -> Result<House, Refusal>
     })
 }
 
-fn listed(house: House, list: &[u8]) -> Result<&[u8], Refusal>
-    ensures { PassesOn list.now (list_rule (house_of house) list.now) result }
+fn listed(house: House, list: &[u8]) -> Result<PickList<'_>, Refusal>
+    ensures { MakesPicks (house_of house) list.now (list_rule (house_of house) list.now) result }
 {
     placed(house, whole_list(list)?)
 }
 
-fn claimed(house: House, file: &[u8]) -> Result<&[u8], Refusal>
-    ensures { PassesOn (claimed_list file.now) (claim_rule (house_of house) file.now) result }
+fn claimed(house: House, file: &[u8]) -> Result<PickList<'_>, Refusal>
+    ensures { MakesPicks (house_of house) (claimed_list file.now) (claim_rule (house_of house) file.now) result }
 {
     placed(house, counted_list(file)?)
 }
 
 // All picks are held to their aisles before any is held to its depth.
-fn placed(house: House, list: &[u8]) -> Result<&[u8], Refusal>
-    ensures { PassesOn list.now (picks_rule (house_of house) list.now) result }
+fn placed(house: House, list: &[u8]) -> Result<PickList<'_>, Refusal>
+    requires whole { Whole list.now }
+    requires few { length list.now ≤ 1024 }
+    ensures { MakesPicks (house_of house) list.now (picks_rule (house_of house) list.now) result }
 {
-    on_shelves(house.deep, in_aisles(house.aisles, list)?)
+    let list = in_aisles(house.aisles, list)?;
+    let bytes = on_shelves(house.deep, list)?;
+    Ok(PickList { house, bytes })
 }

@@ -1,5 +1,6 @@
 // What reading a file comes to, in a form that a table can hold.
-use house::{ClaimedWay, House, PickList, Refusal};
+use house::{House, Refusal};
+use std::process::Abort;
 
 #[derive(Clone, Copy, PartialEq, Eq, Debug)]
 pub enum Answer {
@@ -24,16 +25,25 @@ impl From<Refusal> for Answer {
     }
 }
 
-pub fn answer_to(reading: Result<PickList<'_>, Refusal>) -> Answer {
-    match reading {
+pub fn answer_to_plan(file: &[u8]) -> Answer {
+    match house::read(file) {
         Ok(picks) => picks.house.into(),
         Err(refusal) => refusal.into(),
     }
 }
 
-pub fn answer_to_claim(reading: Result<ClaimedWay<'_>, Refusal>) -> Answer {
-    match reading {
+pub fn answer_to_claim(file: &[u8]) -> Answer {
+    match house::read_claim(file) {
         Ok(claim) => claim.picks.house.into(),
         Err(refusal) => refusal.into(),
+    }
+}
+
+// Holds the answers to files to those that a table asks for.
+pub fn check_rows<F: Fn(&[u8]) -> Answer>(rt: &impl Abort, rows: &[Row], answer_to: F)
+    requires { F.IsAlwaysCallable answer_to }
+{
+    for Row(file, want) in rows {
+        assert_eq!(rt; answer_to(file), *want, "file {file:?}");
     }
 }

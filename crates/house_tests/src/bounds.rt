@@ -1,6 +1,6 @@
 // The bounds of the first three bytes and of a pick, all combinations of them, in both sorts of file.
 use crate::answer::Answer::{Accepted, Refused};
-use crate::answer::{Answer, answer_to, answer_to_claim};
+use crate::answer::{Answer, answer_to_claim, answer_to_plan};
 use std::process::Abort;
 
 // A byte, and whether it lies within its bounds.
@@ -48,17 +48,20 @@ fn wanted(aisles: &Byte, deep: &Byte, apart: &Byte) -> Answer {
     }
 }
 
+// A file to plan and a claim, each with one pick, have the same answer.
+fn check_pick(rt: &impl Abort, house: (u8, u8, u8), pick: (u8, u8), want: Answer) {
+    let (aisles, deep, apart) = house;
+    let (aisle, depth) = pick;
+    let plan = [aisles, deep, apart, aisle, depth];
+    assert_eq!(rt; answer_to_plan(&plan), want, "plan {plan:?}");
+    let claim = [aisles, deep, apart, 1, 0, aisle, depth];
+    assert_eq!(rt; answer_to_claim(&claim), want, "claim {claim:?}");
+}
+
 // The pick at depth 1 of the first aisle is in every house, so that no list is at fault here.
 fn check_house(rt: &impl Abort, aisles: &Byte, deep: &Byte, apart: &Byte) {
     let want = wanted(aisles, deep, apart);
-    let plan = [aisles.0, deep.0, apart.0, 0, 1];
-    assert_eq!(rt; answer_to(house::read(&plan)), want, "plan {plan:?}");
-    let claim = [aisles.0, deep.0, apart.0, 1, 0, 0, 1];
-    assert_eq!(rt;
-        answer_to_claim(house::read_claim(&claim)),
-        want,
-        "claim {claim:?}"
-    );
+    check_pick(rt, (aisles.0, deep.0, apart.0), (0, 1), want);
 }
 
 #[test]
@@ -81,23 +84,15 @@ const HOUSES: [(u8, u8, u8); 5] = [
     (1, 200, 100),
 ];
 
-fn check_pick(rt: &impl Abort, house: &(u8, u8, u8), aisle: u8, depth: u8) {
-    let (aisles, deep, apart) = *house;
-    let want = if aisle >= aisles {
+fn wanted_at(house: (u8, u8, u8), aisle: u8, depth: u8) -> Answer {
+    let (aisles, deep, apart) = house;
+    if aisle >= aisles {
         Refused(5, 0)
     } else if depth == 0 || depth >= deep {
         Refused(6, 0)
     } else {
         Accepted(aisles, deep, apart)
-    };
-    let plan = [aisles, deep, apart, aisle, depth];
-    assert_eq!(rt; answer_to(house::read(&plan)), want, "plan {plan:?}");
-    let claim = [aisles, deep, apart, 1, 0, aisle, depth];
-    assert_eq!(rt;
-        answer_to_claim(house::read_claim(&claim)),
-        want,
-        "claim {claim:?}"
-    );
+    }
 }
 
 #[test]
@@ -105,7 +100,8 @@ fn every_pick_of_a_few_houses(rt: HostRuntime) {
     for house in &HOUSES {
         for aisle in 0..=255 {
             for depth in 0..=255 {
-                check_pick(&rt, house, aisle, depth);
+                let want = wanted_at(*house, aisle, depth);
+                check_pick(&rt, *house, (aisle, depth), want);
             }
         }
     }

@@ -1,7 +1,6 @@
 // Short claims: their answers, and the lists and ways in them.
 use crate::answer::Answer::{Accepted, Refused};
-use crate::answer::{Row, answer_to_claim};
-use std::process::Abort;
+use crate::answer::{Row, answer_to_claim, check_rows};
 
 const CUT_OFF: [Row; 16] = [
     Row(&[], Refused(1, 0)), // no byte at all
@@ -97,22 +96,12 @@ const TWO_FAULTS: [Row; 23] = [
     Row(&[0, 0, 0, 255, 255], Refused(1, 0)), // everything at fault
 ];
 
-fn check_rows(rt: &impl Abort, rows: &[Row]) {
-    for Row(file, want) in rows {
-        assert_eq!(rt;
-            answer_to_claim(house::read_claim(file)),
-            *want,
-            "file {file:?}"
-        );
-    }
-}
-
 #[test]
 fn answers(rt: HostRuntime) {
-    check_rows(&rt, &CUT_OFF);
-    check_rows(&rt, &COUNTS);
-    check_rows(&rt, &PICKS);
-    check_rows(&rt, &TWO_FAULTS);
+    check_rows(&rt, &CUT_OFF, answer_to_claim);
+    check_rows(&rt, &COUNTS, answer_to_claim);
+    check_rows(&rt, &PICKS, answer_to_claim);
+    check_rows(&rt, &TWO_FAULTS, answer_to_claim);
 }
 
 // A claim, and the list and the way in it.

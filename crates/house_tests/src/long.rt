@@ -1,6 +1,6 @@
 // Files with about as many picks as a list may have, and with more.
 use crate::answer::Answer::{Accepted, Refused};
-use crate::answer::{Answer, answer_to, answer_to_claim};
+use crate::answer::{Answer, answer_to_claim, answer_to_plan};
 use std::alloc::AllocError;
 use std::test::Fail;
 
@@ -138,12 +138,10 @@ const CLAIMS: [Claimed; 33] = [
 
 // The aisle and the depth of a pick: good ones unless it is named among the bad.
 fn pick(i: usize, bad: &[Bad]) -> (u8, u8) {
-    for Bad(at, aisle, depth) in bad {
-        if *at == i {
-            return (*aisle, *depth);
-        }
+    match bad.iter().find(|Bad(at, ..)| *at == i) {
+        Some(Bad(_, aisle, depth)) => (*aisle, *depth),
+        None => ((i % 64) as u8, (1 + i % 199) as u8),
     }
-    ((i % 64) as u8, (1 + i % 199) as u8)
 }
 
 // Adds the bytes from `start` to `end` of a list that goes on and on.
@@ -162,7 +160,7 @@ fn plans(rt: HostRuntime) -> Result<(), Fail> {
         add_picks(&mut list, 0, *length, bad)?;
         let mut file = head.to_vec(rt.alloc())?;
         file.extend_from_slice(&list)?;
-        assert_eq!(rt; answer_to(house::read(&file)), *want, "list of {length}");
+        assert_eq!(rt; answer_to_plan(&file), *want, "list of {length}");
         assert_eq!(rt; house::list_of(&file), list.as_slice(), "list of {length}");
     }
     Ok(())
@@ -179,7 +177,7 @@ fn claims(rt: HostRuntime) -> Result<(), Fail> {
         file.extend_from_slice(&list)?;
         file.extend_from_slice(&way)?;
         assert_eq!(rt;
-            answer_to_claim(house::read_claim(&file)),
+            answer_to_claim(&file),
             *want,
             "{head:?}, list of {length}, way of {steps}"
         );

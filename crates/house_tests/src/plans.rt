@@ -1,7 +1,6 @@
 // Short files to plan: their answers, and the lists that are handed on.
 use crate::answer::Answer::{Accepted, Refused};
-use crate::answer::{Row, answer_to};
-use std::process::Abort;
+use crate::answer::{Row, answer_to_plan, check_rows};
 
 const CUT_OFF: [Row; 14] = [
     Row(&[], Refused(1, 0)), // no byte at all
@@ -73,17 +72,11 @@ const TWO_FAULTS: [Row; 24] = [
     Row(&[0, 0, 0, 0], Refused(1, 0)), // everything at fault
 ];
 
-fn check_rows(rt: &impl Abort, rows: &[Row]) {
-    for Row(file, want) in rows {
-        assert_eq!(rt; answer_to(house::read(file)), *want, "file {file:?}");
-    }
-}
-
 #[test]
 fn answers(rt: HostRuntime) {
-    check_rows(&rt, &CUT_OFF);
-    check_rows(&rt, &PICKS);
-    check_rows(&rt, &TWO_FAULTS);
+    check_rows(&rt, &CUT_OFF, answer_to_plan);
+    check_rows(&rt, &PICKS, answer_to_plan);
+    check_rows(&rt, &TWO_FAULTS, answer_to_plan);
 }
 
 // A file and the list in it.
