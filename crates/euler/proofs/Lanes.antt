@@ -1,9 +1,8 @@
 -- Runs in an aisle, deeper and towards the front way, and along one passage. Assumes nothing.
-use Rattle.std.proofs.Common.{◌≡◌, ℕ, zero, suc, ◌+◌, ◌-◌, ◌*◌, ◌<◌, ◌≤◌, List, length, get_or, set, Some, sym, ap, ◌∙◌, subst, subst₂, arith, length-set, get_or-set_other, get_or-set_same}
+use Rattle.std.proofs.Common.{◌≡◌, ℕ, zero, suc, ◌+◌, ◌-◌, ◌*◌, ◌<◌, ◌≤◌, List, length, get_or, take, drop, Some, sym, ap, ◌∙◌, subst, arith, length-take, length-drop, get_or-take}
+use Rattle.std.proofs.lemmas.List.{get_or-drop}
 use native.Mathlib.Decide.{dec_lt}
 use Rattle.house.specs.House.{House, Spot, spot}
-use Rattle.house.specs.Reading.{spot_of}
-use Rattle.house.specs.declared.layout.Spot as code
 use Rattle.walk.specs.Walk.{Goes, byte_of}
 use Rattle.walk.specs.Steps.{landing}
 use Rattle.walk.proofs.Lands.{landing_of_step}
@@ -12,8 +11,7 @@ use Rattle.uses.specs.Layout.{places}
 use Rattle.uses.specs.Looking.{Sees}
 use Rattle.uses.proofs.Places.{place_below}
 use Rattle.euler.specs.Choosing.{Opens}
-use Rattle.euler.specs.Passing.{advanced_by, filled, Worn, Leads, Ran}
-use Rattle.euler.specs.declared.pass.Pass.{Pass}
+use Rattle.euler.specs.Passing.{Leads}
 
 module _ (h : House) where
   sees_deeper : {a y z e : ℕ} → a < h.aisles → y < h.deep → z ≡ suc y → e ≡ a * h.deep + y → Sees h (spot a y) 0 e (spot a z)
@@ -63,103 +61,57 @@ abbrev pub hop : Spot → Spot → ℕ → Spot
 hop s t zero = s
 hop s t (suc i) = t
 
-pub leads_once :
-    {h : House} {left : List ℕ} {s t : Spot} {b c entry : ℕ} → Opens h left s b entry t → c ≡ b → Leads h left c 1 (hop s t) (λ j. entry + j)
-leads_once {h} {left} {s} {t} {b} {c} {entry} opens same =
+pub leads_once : {h : House} {left : List ℕ} {s t : Spot} {b entry : ℕ} → Opens h left s b entry t → Leads h left b 1 (hop s t) (λ j. entry + j)
+leads_once {h} {left} {s} {t} {b} {entry} opens =
     record {
       sees = sees;
       left_over = λ j l. let e : entry ≡ entry + j = omega arith in omega (arith, opens.left_over, ap (λ (k : ℕ). get_or left k 0) e);
       apart = λ i j l m e. omega arith;
     }
   where
-    sees : (i : ℕ) → i < 1 → Sees h (hop s t i) c (entry + i) (hop s t (suc i))
-    sees zero l = let e : entry ≡ entry + 0 = omega arith in subst₂ (λ k d. Sees h s d k t) e (sym same) opens.seen
+    sees : (i : ℕ) → i < 1 → Sees h (hop s t i) b (entry + i) (hop s t (suc i))
+    sees zero l = let e : entry ≡ entry + 0 = omega arith in subst (λ k. Sees h s b k t) e opens.seen
     sees (suc i) l = absurd (omega arith)
 
--- where something is left over at the first place, a run does not stop there
-module _ (left : List ℕ) (start r end : ℕ) (some : start < end) where
-  pub stops_later : start ≤ r → 0 < get_or left start 0 → (r < end → get_or left r 0 ≡ 0) → start < r
-  stops_later i used stops =
-      elim (dec_lt start r) [
+-- an element of a part
+pub part_at : (left : List ℕ) (i n k : ℕ) → k < n → get_or (take n (drop i left)) k 0 ≡ get_or left (i + k) 0
+part_at left i n k l = get_or-take n (drop i left) k 0 l ∙ get_or-drop i left k 0
+
+-- a part of what is left over, from place i on and before j
+module _ (left : List ℕ) (i j r : ℕ) (fits : j ≤ length left) where
+  abbrev pub part : List ℕ
+  part = take (j - i) (drop i left)
+
+  pub length_part : length part ≡ j - i
+  length_part = omega (arith, length-take (j - i) (drop i left), length-drop i left)
+
+  module _ (within : r ≤ length part) where
+    pub first_used : ((k : ℕ) → k < r → 0 < get_or part k 0) → (k : ℕ) → i ≤ k → k < i + r → 0 < get_or left k 0
+    first_used used k l m =
+        let e : i + (k - i) ≡ k = omega arith in
+        omega (arith, used (k - i) (omega arith), part_at left i (j - i) (k - i) (omega (arith, length_part)), ap (λ (z : ℕ). get_or left z 0) e)
+
+    pub last_used : ((k : ℕ) → length part - r ≤ k → k < length part → 0 < get_or part k 0) → (k : ℕ) → j - r ≤ k → k < j → 0 < get_or left k 0
+    last_used used k l m =
+        let e : i + (k - i) ≡ k = omega (arith, length_part) in
+        omega (arith, used (k - i) (omega (arith, length_part)) (omega (arith, length_part)), part_at left i (j - i) (k - i) (omega (arith, length_part)), ap (λ (z : ℕ). get_or left z 0) e)
+
+  -- where something is left over at the first place, or at the last, a run does not stop there
+  pub first_some : i < j → 0 < get_or left i 0 → (r < length part → get_or part r 0 ≡ 0) → 0 < r
+  first_some some used stops =
+      elim (dec_lt 0 r) [
         | yes l ↦ l
-        | no l ↦ let e : r ≡ start = omega arith in absurd (omega (arith, stops (omega arith), ap (λ (k : ℕ). get_or left k 0) e))
+        | no l ↦
+            let e : i + r ≡ i = omega arith in
+            absurd (omega (arith, stops (omega (arith, length_part)), part_at left i (j - i) r (omega arith), ap (λ (z : ℕ). get_or left z 0) e))
       ]
 
-  pub stops_earlier : r ≤ end → 0 < get_or left (end - 1) 0 → (start < r → get_or left (r - 1) 0 ≡ 0) → r < end
-  stops_earlier i used stops =
-      elim (dec_lt r end) [
+  pub last_some : i < j → 0 < get_or left (j - 1) 0 → (r < length part → get_or part (length part - 1 - r) 0 ≡ 0) → 0 < r
+  last_some some used stops =
+      elim (dec_lt 0 r) [
         | yes l ↦ l
-        | no l ↦ let e : r ≡ end = omega arith in absurd (omega (arith, stops (omega arith), ap (λ (k : ℕ). get_or left (k - 1) 0) e))
+        | no l ↦
+            let k = length part - 1 - r in
+            let e : i + k ≡ j - 1 = omega (arith, length_part) in
+            absurd (omega (arith, stops (omega (arith, length_part)), part_at left i (j - i) k (omega (arith, length_part)), ap (λ (z : ℕ). get_or left z 0) e))
       ]
-
--- uses written down at places that follow each other, forward or backward
-module _ {left left' : List ℕ} (start long : ℕ) (same : length left' ≡ length left)
-    (worn : (k : ℕ) → start ≤ k → k < start + long → get_or left' k 0 ≡ get_or left k 0 - 1)
-    (before : (k : ℕ) → k < start → get_or left' k 0 ≡ get_or left k 0)
-    (beyond : (k : ℕ) → start + long ≤ k → get_or left' k 0 ≡ get_or left k 0) where
-  pub worn_forward : Worn left left' (λ i. start + i) long
-  worn_forward =
-      record {
-        same_length = same;
-        taken = λ i l. worn (start + i) (omega arith) (omega arith);
-        others = λ k f.
-            elim (dec_lt k start) [
-              | yes l ↦ before k l
-              | no l ↦ elim (dec_lt k (start + long)) [ yes m ↦ absurd (f (k - start) (omega arith) (omega arith)) | no m ↦ beyond k (omega arith) ]
-            ];
-      }
-
-  pub worn_backward : (end : ℕ) → end ≡ start + long → Worn left left' (λ i. end - 1 - i) long
-  worn_backward end is =
-      record {
-        same_length = same;
-        taken = λ i l. worn (end - 1 - i) (omega arith) (omega arith);
-        others = λ k f.
-            elim (dec_lt k start) [
-              | yes l ↦ before k l
-              | no l ↦ elim (dec_lt k end) [ yes m ↦ absurd (f (end - 1 - k) (omega arith) (omega arith)) | no m ↦ beyond k (omega arith) ]
-            ];
-      }
-
--- one use written down
-pub worn_once :
-    {left left' : List ℕ} (entry : ℕ) → entry < length left → left' ≡ set left entry (get_or left entry 0 - 1) → Worn left left' (λ i. entry + i) 1
-worn_once {left} entry here taken =
-    subst
-    (λ (l : List ℕ). Worn left l (λ i. entry + i) 1)
-    (sym taken)
-    (worn_forward entry 1 (length-set left entry (get_or left entry 0 - 1)) worn (λ k l. others k (omega arith)) (λ k l. others k (omega arith)))
-  where
-    less : List ℕ
-    less = set left entry (get_or left entry 0 - 1)
-
-    others : (k : ℕ) → ¬ (k ≡ entry) → get_or less k 0 ≡ get_or left k 0
-    others k z = get_or-set_other left entry k (get_or left entry 0 - 1) 0 z
-
-    worn : (k : ℕ) → entry ≤ k → k < entry + 1 → get_or less k 0 ≡ get_or left k 0 - 1
-    worn k i l =
-        let e : k ≡ entry = omega arith in
-        ap (λ (z : ℕ). get_or less z 0) e ∙ get_or-set_same left entry (get_or left entry 0 - 1) 0 here ∙ ap (λ (z : ℕ). get_or left z 0 - 1) (sym e)
-
--- a run, put together
-pub ran_by :
-    {h : House} {left left' steps steps' : List ℕ} {p q : Pass} {to : code.Spot} {byte long : ℕ} {spots : ℕ → Spot} {entry : ℕ → ℕ} → 0 < long →
-    p.top + long ≤ p.tail → Leads h left byte long spots entry → spots 0 ≡ spot_of p.at → spots long ≡ spot_of to → Worn left left' entry long →
-    steps' ≡ filled steps p.top byte long → q ≡ advanced_by p long to → Ran h left left' steps steps' p q
-ran_by {p = p} {q} {to} {byte} {long} {spots} {entry} some room leads from lands worn written is =
-    record {
-      byte = byte;
-      long = long;
-      spots = spots;
-      entry = entry;
-      some = some;
-      room = room;
-      leads = leads;
-      from = from;
-      to = lands ∙ sym (ap (λ (r : Pass). spot_of r.at) is);
-      worn = worn;
-      written = written;
-      top = ap (λ (r : Pass). r.top) is;
-      tail = ap (λ (r : Pass). r.tail) is;
-      end = ap (λ (r : Pass). r.end) is;
-    }

@@ -1,8 +1,11 @@
 pub mod Ending
+pub mod Finding
+pub mod Going
 pub mod Halfway
 pub mod Joined
 pub mod Lanes
 pub mod Less
+pub mod Middles
 pub mod Origin
 pub mod Parting
 pub mod Progress

@@ -1,5 +1,5 @@
 -- A run keeps what each of its steps keeps. Assumes nothing.
-use Rattle.std.proofs.Common.{◌≡◌, ℕ, zero, suc, ◌+◌, ◌-◌, ◌<◌, ◌≤◌, List, length, get_or, set, sym, refl, ap, ◌∙◌, subst₂, add-one, arith, length-set, get_or-set_other, get_or-set_same, ext_get_or, set-set}
+use Rattle.std.proofs.Common.{◌≡◌, ℕ, zero, suc, ◌+◌, ◌-◌, ◌<◌, ◌≤◌, List, length, get_or, set, sym, refl, ap, ◌∙◌, subst₂, arith, length-set, get_or-set_other, get_or-set_same, ext_get_or, set-set}
 use native.Mathlib.Decide.{dec_lt, ℕ_discrete}
 use lib.Seq.{set-get_or}
 use Rattle.house.specs.House.{House, Spot}
@@ -10,19 +10,7 @@ use Rattle.euler.specs.Passing.{filled, Worn, Leads}
 use Rattle.euler.proofs.Progress.{Progress, progress_on}
 
 module _ (steps : List ℕ) (start b : ℕ) where
-  pub filled_none : filled steps start b 0 ≡ steps
-  unfolding filled
-  filled_none = refl
-
-  pub filled_more : (n : ℕ) → filled steps start b (n + 1) ≡ set (filled steps start b n) (start + n) b
-  unfolding filled
-  filled_more n = rw add-one
-
-  pub filled_once : filled steps start b 1 ≡ set steps start b
-  unfolding filled
-  filled_once = let e : start + 0 ≡ start = omega arith in ap (λ (k : ℕ). set steps k b) e
-
-  length_filled : (n : ℕ) → length (filled steps start b n) ≡ length steps
+  pub length_filled : (n : ℕ) → length (filled steps start b n) ≡ length steps
   unfolding filled
   length_filled zero = refl
   length_filled (suc n) = length-set (filled steps start b n) (start + n) b ∙ length_filled n

@@ -1,12 +1,20 @@
 -- A way on from a spot shows that a use meets it; and uses that are round for a list touch all its picks. Assumes nothing.
-use Rattle.std.proofs.Common.{◌≡◌, ℕ, ◌<◌, Bool, true, false, ltb, ◌⊎◌, List, length, get_or, ap, subst, inl, inr, arith}
-use Rattle.std.proofs.lemmas.List.{get_or_default}
+use Rattle.std.proofs.Common.{◌≡◌, ℕ, ◌<◌, true, false, ltb, ◌⊎◌, List, [], ◌∷◌, ◌++◌, Ok, Err, Result, Option, Some, None, length, get_or, ap, subst, inl, inr, arith}
+use Rattle.std.proofs.lemmas.Iterator.{YieldsList}
+use Rattle.std.proofs.lemmas.Iterator.Consumers.{YieldsList-from_first, YieldsList-turn, YieldsList-end}
+use Rattle.std.proofs.lemmas.List.{get_or_default, get_or_read, length_push}
+use Rattle.std.specs.Iterator.{Yields, YieldsFirstBy}
 use Rattle.std.proofs.lemmas.Bool.Decides.{nat_tests}
+use Rattle.std.specs.Option.{is_some}
+use native.Mathlib.Decide.{dec_lt}
 use Rattle.graph.specs.Graph.{Linked}
 use Rattle.graph.proofs.Links.{touched_end}
 use Rattle.graph.proofs.Sums.{degree_at_start}
 use Rattle.house.specs.House.{House, Spot, desk}
-use Rattle.house.specs.Bounds.{picks_of, InAisles, OnShelves}
+use Rattle.house.specs.Bounds.{picks_of}
+use Rattle.house.specs.Reading.{spot_of}
+use Rattle.house.specs.declared.entries.Picks.{Picks}
+use Rattle.house.specs.declared.layout.Spot as code
 use Rattle.walk.specs.Steps.{Within}
 use Rattle.uses.specs.Edges.{degree, house_graph}
 use Rattle.uses.specs.Layout.{held_in, uses_in}
@@ -14,24 +22,30 @@ use Rattle.uses.specs.Looking.{edge_by}
 use Rattle.uses.specs.Uses.{Round}
 use Rattle.uses.proofs.Laws.{house_laws}
 use Rattle.uses.proofs.Taken.{joins_of_landing}
-use Rattle.euler.specs.Choosing.{Opens, Shut}
-use Rattle.euler.specs.Passing.{Closes, Settles}
-use Rattle.euler.specs.Touching.{Misses, Touches}
-use Rattle.euler.specs.Walking.{Measured, WalksPast}
+use Rattle.euler.specs.Choosing.{Opens, Shut, Chooses}
+use Rattle.euler.specs.Touching.{degree_at, Misses, Touches}
+use Rattle.euler.specs.Walking.{WalksUses, WalksRound}
+use Rattle.euler.specs.declared.answer.Unwalked.{Unwalked}
+use Rattle.euler.specs.declared.answer.Unwalked.TheVariants.{Refused, NotRound}
 use Rattle.euler.specs.declared.answer.Walked.{Walked}
-use Rattle.euler.proofs.Rounded.{round_eulerian, round_picked, round_for_none}
+use Rattle.euler.specs.declared.choice.Onward.{Onward}
+use Rattle.euler.proofs.Rounded.{round_eulerian, round_picked, eulerian_round, round_for_none}
 use Rattle.euler.proofs.Stuck.{stuck_degree}
-use Rattle.euler.proofs.Touring.{closes_round, closes_round_none, settled_tours}
 
--- a pick of a list that fits its house is a spot of it
-pub pick_within :
-    {h : House} (list : List ℕ) (i : ℕ) {s : Spot} → InAisles h.aisles list → OnShelves h.deep list → i < length (picks_of list) →
-    s ≡ get_or (picks_of list) i desk → Within h s
-pick_within list i aisles shelves there is =
-    record {
-      aisle_in = omega (arith, aisles i there, ap (λ (p : Spot). p.aisle) is);
-      depth_in = omega (arith, (shelves i there).1, ap (λ (p : Spot). p.depth) is);
-    }
+-- going through the picks of a list: where a pick stands in it, and that all were gone through
+module _ (s t u : Picks) {list : List ℕ} (xs : List code.Spot) (r : Option code.Spot) (begins : s.bytes.now ≡ list)
+    (gone : Yields (YieldsFirstBy spot_of (λ (i : Picks). picks_of i.bytes.now)) s xs t) (next : YieldsFirstBy spot_of (λ (i : Picks). picks_of i.bytes.now) t r u) where
+  road : YieldsList (YieldsFirstBy spot_of (λ (i : Picks). picks_of i.bytes.now)) spot_of s (picks_of list)
+  road = YieldsList-from_first spot_of (λ (i : Picks). picks_of i.bytes.now) (picks_of list) (ap picks_of begins)
+
+  pub pick_there : {at : code.Spot} → r ≡ Some at → length xs < length (picks_of list)
+  pick_there {at} is = (YieldsList-turn road xs t gone r u at is next).0
+
+  pub pick_is : {at : code.Spot} → r ≡ Some at → spot_of at ≡ get_or (picks_of list) (length xs) desk
+  pick_is {at} is = let turn = YieldsList-turn road xs t gone r u at is next in get_or_read (picks_of list) (length xs) (spot_of at) turn.0 turn.1 desk
+
+  pub picks_gone : r ≡ None → length xs ≡ length (picks_of list)
+  picks_gone is = (YieldsList-end road xs t gone r u is next).1
 
 positive : (n : ℕ) → 0 < n → true ≡ ltb 0 n
 positive n l = grind (arith, nat_tests)
@@ -40,22 +54,46 @@ none_there : (n : ℕ) → n ≡ 0 → false ≡ ltb 0 n
 none_there n l = grind (arith, nat_tests)
 
 module _ (h : House) (us : List ℕ) where
-  pub opens_touch : {s t : Spot} {b entry : ℕ} → Within h s → Opens h us s b entry t → true ≡ ltb 0 (degree h (held_in h us) s)
+  opens_touch : {s t : Spot} {b entry : ℕ} → Within h s → Opens h us s b entry t → true ≡ ltb 0 (degree h (held_in h us) s)
   opens_touch {s} {t} {b} inside opens =
       let j = joins_of_landing h b inside opens.seen.leads in
       let used : 0 < held_in h us (edge_by h s b) = omega (arith, ap (λ (k : ℕ). get_or us k 0) opens.seen.entry_is, opens.left_over) in
       positive _ (degree_at_start (house_graph h) (house_laws h) (held_in h us) (edge_by h s b) j.inside used j.ends)
 
-  pub shut_misses : (s : Spot) → ((b : ℕ) → Shut h us s b) → false ≡ ltb 0 (degree h (held_in h us) s)
+  shut_misses : (s : Spot) → ((b : ℕ) → Shut h us s b) → false ≡ ltb 0 (degree h (held_in h us) s)
   shut_misses s shut = none_there _ (stuck_degree h us s shut)
 
+  -- one can go on from a spot exactly where a use meets it
+  pub chosen_touches : (s : Spot) (r : Option Onward) → Within h s → Chooses h us s r → is_some r ≡ ltb 0 (degree h (held_in h us) s)
+  chosen_touches s (Some o) inside opens = opens_touch inside opens
+  chosen_touches s None inside shut = shut_misses s shut
+
+  -- a use touches one pick more
+  pub touches_more :
+      (picks : List Spot) (xs : List code.Spot) (at : code.Spot) → spot_of at ≡ get_or picks (length xs) desk → true ≡ ltb 0 (degree h (held_in h us) (spot_of at)) →
+      ((k : ℕ) → k < length xs → 0 < degree_at h picks us k) → (k : ℕ) → k < length (xs ++ at ∷ []) → 0 < degree_at h picks us k
+  touches_more picks xs at is touched before k l =
+      elim (dec_lt k (length xs)) [
+        | yes m ↦ before k m
+        | no m ↦
+            let last : k ≡ length xs = omega (arith, length_push xs at) in
+            let some : 0 < degree h (held_in h us) (spot_of at) = grind (arith, nat_tests) in
+            omega (arith, ap (λ (p : Spot). degree h (held_in h us) p) is, ap (λ (j : ℕ). degree_at h picks us j) last)
+      ]
+
+  pub untouched_misses :
+      (picks : List Spot) (n : ℕ) {p : Spot} → n < length picks → p ≡ get_or picks n desk → false ≡ ltb 0 (degree h (held_in h us) p) → Misses h picks us
+  untouched_misses picks n {p} there is not =
+      let none : degree h (held_in h us) p ≡ 0 = grind (arith, nat_tests) in
+      record { pick = n; there = there; untouched = omega (arith, ap (λ (q : Spot). degree h (held_in h us) q) is) }
+
   module _ {picks : List Spot} where
-    -- a closed walk links every spot that its uses touch with the desk
-    pub touches_round : {steps : List ℕ} {n : ℕ} → Closes h us steps n → Touches h picks us true → Round h picks (uses_in h us)
-    touches_round z touches =
-        closes_round h z (λ i d l.
-        subst (λ p. Linked (house_graph h) (held_in h us) desk p) (get_or_default picks i desk d l)
-        ((round_eulerian h us (closes_round_none h z)).held (get_or picks i desk) (touches i l)))
+    -- round uses link every spot that they touch with the desk
+    touched_round : Round h [] (uses_in h us) → Touches h picks us true → Round h picks (uses_in h us)
+    touched_round round touches =
+        let euler = round_eulerian h us round in
+        eulerian_round h us euler (λ i d l.
+        subst (λ p. Linked (house_graph h) (held_in h us) desk p) (get_or_default picks i desk d l) (euler.held (get_or picks i desk) (touches i l)))
 
     -- a pick is not the desk
     pub misses_round : ((i : ℕ) → i < length picks → 0 < (get_or picks i desk).depth) → Misses h picks us → Round h picks (uses_in h us) → ⊥
@@ -65,8 +103,10 @@ module _ (h : House) (us : List ℕ) where
         at (inl same) = omega (arith, ap (λ (p : Spot). p.depth) same, shelves miss.pick miss.there)
         at (inr some) = omega (arith, miss.untouched)
 
-  module _ (picks : List Spot) (us' steps steps' : List ℕ) {w : Walked} (measured : Measured h us w) where
-    pub settles_past :
-        (r : Bool) → Touches h picks us true → Settles h us us' steps steps' w.steps r → WalksPast h picks us us' steps steps' w r
-    settles_past true touches z = let round = touches_round z.closes touches in (round, settled_tours h us us' steps steps' measured z round)
-    settles_past false touches z = (λ round. z.0 (round_for_none round), (z.1, z.2))
+  -- a walk over uses that touch all picks is one past the picks
+  pub touched_past :
+      (picks : List Spot) (us' steps steps' : List ℕ) (r : Result Walked Unwalked) → Touches h picks us true → WalksUses h us us' steps steps' r →
+      WalksRound h picks us us' steps steps' r
+  touched_past picks us' steps steps' (Ok w) touches z = let round = touched_round z.1.0 touches in (z.0, (round, z.1.1 picks round))
+  touched_past picks us' steps steps' (Err (Refused e)) touches z = z
+  touched_past picks us' steps steps' (Err NotRound) touches z = (z.0, (λ round. z.1 (round_for_none round)), z.2)

@@ -1,9 +1,8 @@
 -- A closed walk with the uses of a slice is a tour past every pick that they link with the desk, and shows that they are round. Assumes nothing.
-use Rattle.std.proofs.Common.{ℕ, ◌<◌, Bool, true, false, List, [], length, get_or, sym, ◌∙◌, inl, inr, arith}
-use Rattle.graph.specs.Graph.{Linked}
+use Rattle.std.proofs.Common.{ℕ, Bool, true, false, List, [], sym, ◌∙◌, inl, inr, arith}
 use Rattle.graph.specs.Trails.{passes}
 use Rattle.graph.proofs.Walked.{walked_is_eulerian, walks_past}
-use Rattle.house.specs.House.{House, Spot, desk}
+use Rattle.house.specs.House.{House, Spot}
 use Rattle.walk.specs.Walk.{Walk, Passes}
 use Rattle.uses.specs.Edges.{house_graph}
 use Rattle.uses.specs.Layout.{held_in, uses_in}
@@ -39,20 +38,14 @@ module _ (h : House) where
           uses = z.uses;
         }
 
-    -- round for the picks that the uses link with the desk
-    pub closes_round :
-        {picks : List Spot} → ((i : ℕ) (d : Spot) → i < length picks → Linked (house_graph h) (held_in h us) desk (get_or picks i d)) →
-        Round h picks (uses_in h us)
-    closes_round picked =
+    closes_round : Round h [] (uses_in h us)
+    closes_round =
         eulerian_round h us
         (eulerian_alike (house_graph h) (house_laws h) z.uses (walked_is_eulerian (house_graph h) (house_laws h) (to_trail h z.walk)))
-        picked
-
-    pub closes_round_none : Round h [] (uses_in h us)
-    closes_round_none = closes_round (λ i d l. absurd (omega arith))
+        (λ i d l. absurd (omega arith))
 
   module _ (us us' steps steps' : List ℕ) {w : Walked} (measured : Measured h us w) where
-    pub settled_tours :
+    settled_tours :
         Settled h us us' steps steps' w.steps → {picks : List Spot} → Round h picks (uses_in h us) → Tours h picks us us' steps steps' w
     unfolding toured
     settled_tours z round =
@@ -70,5 +63,5 @@ module _ (h : House) where
         }
 
     pub settles_over : (r : Bool) → Settles h us us' steps steps' w.steps r → WalksOver h us us' steps steps' w r
-    settles_over true z = (closes_round_none z.closes, λ picks round. settled_tours z round)
+    settles_over true z = (closes_round z.closes, λ picks round. settled_tours z round)
     settles_over false z = (z.0, (z.1, z.2))

@@ -10,16 +10,14 @@ use Rattle.uses.specs.Looking.{Sees}
 use Rattle.uses.specs.Uses.{Round}
 use Rattle.uses.specs.Walked.{counted}
 use Rattle.euler.specs.declared.pass.Pass.{Pass}
+use Rattle.euler.specs.declared.stretch.Stretch.{Stretch}
 
 abbrev pub begun : ℕ → Pass
 begun n = record { top = 0; tail = n; at = record { aisle = 0; depth = 0 }; end = record { aisle = 0; depth = 0 } }
 
-abbrev pub advanced : Pass → code.Spot → Pass
-advanced p to = record { top = p.top + 1; tail = p.tail; at = to; end = p.end }
-
 -- so many steps on, to a spot
-abbrev pub advanced_by : Pass → ℕ → code.Spot → Pass
-advanced_by p long to = record { top = p.top + long; tail = p.tail; at = to; end = p.end }
+abbrev pub advanced : Pass → ℕ → code.Spot → Pass
+advanced p long to = record { top = p.top + long; tail = p.tail; at = to; end = p.end }
 
 abbrev pub retreated : Pass → code.Spot → Pass
 retreated p from = record { top = p.top - 1; tail = p.tail - 1; at = from; end = from }
@@ -40,6 +38,19 @@ pub record Leads (h : House) (left : List ℕ) (byte long : ℕ) (spots : ℕ �
   pub sees : (i : ℕ) → i < long → Sees h (spots i) byte (entry i) (spots (suc i))
   pub left_over : (i : ℕ) → i < long → 0 < slice_index left (entry i)
   pub apart : (i j : ℕ) → i < j → j < long → ¬ (entry i ≡ entry j)
+
+-- one such step at least from a spot, and no more than there is room for; their uses are those at places that follow each other
+pub record Straight (h : House) (left : List ℕ) (at : code.Spot) (room byte : ℕ) (s : Stretch) : Type 0 where
+  pub spots : ℕ → Spot
+  pub entry : ℕ → ℕ
+  pub some : 0 < s.long
+  pub short : s.long ≤ room
+  pub leads : Leads h left byte s.long spots entry
+  pub from : spots 0 ≡ spot_of at
+  pub to : spots s.long ≡ spot_of s.to
+  pub fits : s.start + s.long ≤ places h
+  pub inside : (i : ℕ) → i < s.long → (s.start ≤ entry i) × (entry i < s.start + s.long)
+  pub covers : (k : ℕ) → s.start ≤ k → k < s.start + s.long → (i : ℕ) × (i < s.long) × (k ≡ entry i)
 
 -- a run: one such step at least, between stack and tail; they go onto the stack, and their uses are written down
 pub record Ran (h : House) (left left' steps steps' : List ℕ) (p q : Pass) : Type 0 where

@@ -5,10 +5,11 @@ ghost use Rattle.uses.specs.Layout.{places};
 ghost use Rattle.euler.specs.Passing.{Settles};
 ghost use Rattle.euler.specs.Walking.{count_of};
 
-use crate::memory::{copy, places};
-use crate::room::{STEPS, USES};
+use crate::room::STEPS;
 use crate::tracing::trace;
 use house::House;
+use uses::ROOM;
+use uses::layout::places;
 
 const FEW: usize = 1024;
 
@@ -23,10 +24,10 @@ pub(crate) fn close(house: House, uses: &mut [u8], steps: &mut [u8], n: usize) -
     let places = places(house);
     if n <= FEW && places <= FEW {
         settle(house, uses, steps, n, &mut [0; FEW], &mut [0; FEW])
-    } else if n <= USES {
-        settle(house, uses, steps, n, &mut [0; USES], &mut [0; USES])
+    } else if n <= ROOM {
+        settle(house, uses, steps, n, &mut [0; ROOM], &mut [0; ROOM])
     } else {
-        settle(house, uses, steps, n, &mut [0; USES], &mut [0; STEPS])
+        settle(house, uses, steps, n, &mut [0; ROOM], &mut [0; STEPS])
     }
 }
 
@@ -46,11 +47,11 @@ fn settle(
     ensures { Settles (house_of house) uses.old uses.new steps.old steps.new n result }
 {
     let places = places(house);
-    copy(uses, places, left);
+    left[..places].copy_from_slice(&uses[..places]);
     if !trace(house, uses, way, n) {
-        copy(left, places, uses);
+        uses[..places].copy_from_slice(&left[..places]);
         return false;
     }
-    copy(way, n, steps);
+    steps[..n].copy_from_slice(&way[..n]);
     true
 }

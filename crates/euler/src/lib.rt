@@ -5,7 +5,6 @@ mod answer;
 mod choice;
 mod copies;
 mod laws;
-mod memory;
 mod pass;
 mod room;
 mod run;
@@ -16,4 +15,5 @@ mod walking;
 
 pub use answer::{Unwalked, Walked};
 pub use laws::{never_parts, round_is_tour, round_is_walked};
+pub use room::STEPS;
 pub use walking::{walk_round, walk_uses};

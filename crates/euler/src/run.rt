@@ -1,117 +1,57 @@
 // Runs: in an aisle the walk goes straight on, as far as uses are left over, in one turn.
-ghost use Rattle.std.specs.Prelude.{◌≡◌, ℕ, ◌+◌, ◌-◌, ◌*◌, ◌<◌, ◌≤◌, length, slice_index};
+ghost use Rattle.std.specs.Prelude.{◌≡◌, ℕ, ◌-◌, ◌<◌, ◌≤◌, length, slice_index, slice_set};
 ghost use Rattle.house.specs.Reading.{house_of, spot_of};
 ghost use Rattle.walk.specs.Codes.{byte_of};
 ghost use Rattle.walk.specs.Steps.{Within};
 ghost use Rattle.uses.specs.Layout.{places};
 ghost use Rattle.euler.specs.Choosing.{Opens};
-ghost use Rattle.euler.specs.Passing.{filled, Ran};
+ghost use Rattle.euler.specs.Passing.{Ran};
 
 use crate::choice::Onward;
-use crate::pass::{Pass, advance, advance_by, take};
-use crate::stretch::{stop_after, stop_before};
-use house::{House, Spot};
-use walk::Step;
+use crate::pass::Pass;
+use crate::stretch::ahead;
+use house::House;
+use uses::Crossing;
 
-// At least one step on. Passages are gone one at a time.
-pub(crate) fn run(
-    house: House,
-    pass: Pass,
-    onward: Onward,
-    left: &mut [u8],
-    steps: &mut [u8],
-) -> Pass
-    requires opens { Opens (house_of house) left.old (spot_of pass.at) (byte_of onward.step) onward.entry (spot_of onward.to) }
-    requires inside { Within (house_of house) (spot_of pass.at) }
+// At least one step on.
+pub(crate) fn run(house: House, pass: &mut Pass, onward: Onward, left: &mut [u8], steps: &mut [u8])
+    requires opens { Opens (house_of house) left.old (spot_of pass.old.at) (byte_of onward.step) onward.entry (spot_of onward.to) }
+    requires inside { Within (house_of house) (spot_of pass.old.at) }
     requires places { places (house_of house) ≤ length left.old }
-    requires room { (pass.top < pass.tail) × (pass.tail ≤ length steps.old) }
-    ensures { Ran (house_of house) left.old left.new steps.old steps.new pass result }
+    requires room { (pass.old.top < pass.old.tail) × (pass.old.tail ≤ length steps.old) }
+    ensures { Ran (house_of house) left.old left.new steps.old steps.new pass.old pass.new }
 {
-    match onward.step {
-        Step::Deeper => deeper(house, pass, left, steps),
-        Step::Back => shallower(house, pass, left, steps),
-        _ => {
-            take(left, onward.entry);
-            advance(pass, onward, steps)
-        }
-    }
+    let (top, at) = (pass.top, pass.at);
+    let from = Crossing {
+        house,
+        entries: left,
+        at,
+    };
+    let Some(straight) = ahead(from, onward, pass.tail - top) else {
+        take(left, onward.entry);
+        steps[top] = onward.step.into();
+        pass.advance(1, onward.to);
+        return;
+    };
+    wear(&mut left[straight.start..straight.start + straight.long]);
+    steps[top..top + straight.long].fill(onward.step.into());
+    pass.advance(straight.long, straight.to);
 }
 
-// On towards the back way.
-fn deeper(house: House, pass: Pass, left: &mut [u8], steps: &mut [u8]) -> Pass
-    requires inside { (pass.at.aisle < house.aisles) × (pass.at.depth < house.deep) }
-    requires used { 0 < slice_index left.old (pass.at.aisle * house.deep + pass.at.depth) }
-    requires places { places (house_of house) ≤ length left.old }
-    requires room { (pass.top < pass.tail) × (pass.tail ≤ length steps.old) }
-    ensures { Ran (house_of house) left.old left.new steps.old steps.new pass result }
+// Writes one use down.
+fn take(left: &mut [u8], entry: usize)
+    requires { (entry < length left.old) × (0 < slice_index left.old entry) }
+    ensures { left.new ≡ slice_set left.old entry (slice_index left.old entry - 1) }
 {
-    let start = lane(house, pass.at);
-    let most = ((house.deep - pass.at.depth) as usize).min(pass.tail - pass.top);
-    let long = stop_after(left, start, start + most) - start;
-    wear(left, start, long);
-    write(steps, pass.top, long, 0);
-    let depth = pass.at.depth + long as u8;
-    advance_by(
-        pass,
-        long,
-        Spot {
-            aisle: pass.at.aisle,
-            depth,
-        },
-    )
+    left[entry] -= 1;
 }
 
-// On towards the front way.
-fn shallower(house: House, pass: Pass, left: &mut [u8], steps: &mut [u8]) -> Pass
-    requires inside { (pass.at.aisle < house.aisles) × ((pass.at.depth ≤ house.deep) × (0 < pass.at.depth)) }
-    requires used { 0 < slice_index left.old (pass.at.aisle * house.deep + pass.at.depth - 1) }
-    requires places { places (house_of house) ≤ length left.old }
-    requires room { (pass.top < pass.tail) × (pass.tail ≤ length steps.old) }
-    ensures { Ran (house_of house) left.old left.new steps.old steps.new pass result }
+// Writes one use down at each place.
+fn wear(left: &mut [u8])
+    requires { (k : ℕ) → k < length left.old → 0 < slice_index left.old k }
+    ensures { (k : ℕ) → k < length left.old → slice_index left.new k ≡ slice_index left.old k - 1 }
 {
-    let end = lane(house, pass.at);
-    let most = (pass.at.depth as usize).min(pass.tail - pass.top);
-    let stop = stop_before(left, end - most, end);
-    let long = end - stop;
-    wear(left, stop, long);
-    write(steps, pass.top, long, 1);
-    let depth = pass.at.depth - long as u8;
-    advance_by(
-        pass,
-        long,
-        Spot {
-            aisle: pass.at.aisle,
-            depth,
-        },
-    )
-}
-
-// The place of the use deeper in the aisle; that of the use towards the front way stands before it.
-fn lane(house: House, at: Spot) -> usize
-    ensures { result ≡ at.aisle * house.deep + at.depth }
-{
-    at.aisle as usize * house.deep as usize + at.depth as usize
-}
-
-// Writes one use down at each of so many places.
-fn wear(left: &mut [u8], start: usize, long: usize)
-    requires room { start + long ≤ length left.old }
-    requires used { (k : ℕ) → start ≤ k → k < start + long → 0 < slice_index left.old k }
-    ensures worn { (k : ℕ) → start ≤ k → k < start + long → slice_index left.new k ≡ slice_index left.old k - 1 }
-    ensures before { (k : ℕ) → k < start → slice_index left.new k ≡ slice_index left.old k }
-    ensures beyond { (k : ℕ) → start + long ≤ k → slice_index left.new k ≡ slice_index left.old k }
-{
-    for i in start..start + long {
-        left[i] -= 1;
-    }
-}
-
-// Writes so many steps with one byte.
-fn write(steps: &mut [u8], start: usize, long: usize, byte: u8)
-    requires { start + long ≤ length steps.old }
-    ensures { steps.new ≡ filled steps.old start byte long }
-{
-    for i in 0..long {
-        steps[start + i] = byte;
+    for uses in left.iter_mut() {
+        *uses -= 1;
     }
 }

@@ -1,36 +1,31 @@
 // Whether uses touch every pick of a list.
-ghost use Rattle.std.specs.Prelude.{◌≡◌, ◌≤◌, length, nat_lt};
+ghost use Rattle.std.specs.Prelude.{◌≡◌, nat_lt};
 ghost use Rattle.house.specs.Bounds.{picks_of};
 ghost use Rattle.house.specs.Reading.{house_of, spot_of};
-ghost use Rattle.walk.specs.Steps.{Within};
 ghost use Rattle.uses.specs.Edges.{degree};
-ghost use Rattle.uses.specs.Layout.{places, held_in};
+ghost use Rattle.uses.specs.Layout.{held_in};
 ghost use Rattle.euler.specs.Touching.{Touches};
 
 use crate::choice::choose;
-use house::{House, PickList, Spot};
+use house::PickList;
+use uses::{Crossing, HouseUses};
 
-pub(crate) fn touches_all(picks: PickList<'_>, uses: &[u8]) -> bool
-    requires { 12926 ≤ length uses.now }
-    ensures { Touches (house_of picks.entry.house) (picks_of picks.entry.bytes.now) uses.now result }
+pub(crate) fn touches_all(picks: PickList<'_>, uses: HouseUses<'_>) -> bool
+    requires { uses.house ≡ picks.house }
+    ensures { Touches (house_of uses.entry.house) (picks_of picks.entry.bytes.now) uses.entry.entries.now result }
 {
-    let mut i = 0;
-    while let Some(pick) = picks.get(i) {
-        if !touched(picks.house, uses, pick) {
+    let HouseUses { house, entries } = uses;
+    for at in picks {
+        if !touched(Crossing { house, entries, at }) {
             return false;
         }
-        i += 1;
     }
     true
 }
 
 // A use meets a spot where one could go on from it.
-fn touched(house: House, uses: &[u8], at: Spot) -> bool
-    requires { (Within (house_of house) (spot_of at)) × (places (house_of house) ≤ length uses.now) }
-    ensures { result ≡ nat_lt 0 (degree (house_of house) (held_in (house_of house) uses.now) (spot_of at)) }
+fn touched(at: Crossing<'_>) -> bool
+    ensures { result ≡ nat_lt 0 (degree (house_of at.entry.house) (held_in (house_of at.entry.house) at.entry.entries.now) (spot_of at.entry.at)) }
 {
-    match choose(house, uses, at) {
-        Some(_) => true,
-        None => false,
-    }
+    choose(at).is_some()
 }

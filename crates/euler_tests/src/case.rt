@@ -1,8 +1,9 @@
 // Uses and their answer, and what memory must hold after it.
 use euler::{Unwalked, Walked, walk_uses};
-use house::{House, Spot};
+use house::{House, Memory, Refusal, Spot};
 use std::process::Abort;
 use std::test::Fail;
+use uses::layout::{back, front, lane, places};
 use uses::look;
 use walk::{Step, measure};
 
@@ -17,30 +18,22 @@ pub enum Stretch {
     All(u8),
 }
 
-#[derive(Clone, Copy, PartialEq, Eq, Debug)]
-pub enum Answer {
-    // the number of steps, and the length
-    Tour(usize, u32),
-    NotRound,
-    // a number and a place
-    Refused(u8, usize),
+pub type Answer = Result<Walked, Unwalked>;
+
+pub const NOT_ROUND: Answer = Err(Unwalked::NotRound);
+
+pub const FEW_STEPS: Answer = Err(Unwalked::Refused(Refusal::Short(Memory::Steps)));
+
+pub const FEW_USES: Answer = Err(Unwalked::Refused(Refusal::Short(Memory::Uses)));
+
+// So many steps, and the length.
+pub fn tour(steps: usize, length: u32) -> Answer {
+    Ok(Walked { steps, length })
 }
 
 // The number of aisles, their depth and their distance; the uses; the answer.
 #[derive(Clone, Copy)]
 pub struct Case(pub [u8; 3], pub &'static [Stretch], pub Answer);
-
-pub fn answer_to(walked: Result<Walked, Unwalked>) -> Answer {
-    match walked {
-        Ok(walked) => Answer::Tour(walked.steps, walked.length),
-        Err(Unwalked::NotRound) => Answer::NotRound,
-        Err(Unwalked::Refused(refusal)) => Answer::Refused(refusal.number(), refusal.place()),
-    }
-}
-
-fn places(house: House) -> usize {
-    house.aisles as usize * house.deep as usize + 2 * (house.aisles as usize - 1)
-}
 
 fn put(uses: &mut [u8], place: usize, times: u8) {
     if place < uses.len() {
@@ -48,37 +41,23 @@ fn put(uses: &mut [u8], place: usize, times: u8) {
     }
 }
 
-// No use in the house, and 7 beyond.
-fn blank(house: House, uses: &mut [u8]) {
-    for i in 0..uses.len() {
-        uses[i] = if i < places(house) { 0 } else { 7 };
-    }
+// So often everything in the house.
+fn put_all(house: House, uses: &mut [u8], times: u8) {
+    let end = places(house).min(uses.len());
+    uses[..end].fill(times);
 }
 
 pub fn lay(house: House, stretches: &[Stretch], uses: &mut [u8]) {
-    let lanes = house.aisles as usize * house.deep as usize;
     for stretch in stretches {
         match *stretch {
             Stretch::Lane(aisle, from, to, times) => {
-                for y in from..to {
-                    put(
-                        uses,
-                        aisle as usize * house.deep as usize + y as usize,
-                        times,
-                    );
+                for depth in from..to {
+                    put(uses, lane(house, aisle, depth), times);
                 }
             }
-            Stretch::Front(aisle, times) => put(uses, lanes + aisle as usize, times),
-            Stretch::Back(aisle, times) => put(
-                uses,
-                lanes + (house.aisles as usize - 1) + aisle as usize,
-                times,
-            ),
-            Stretch::All(times) => {
-                for i in 0..places(house) {
-                    put(uses, i, times);
-                }
-            }
+            Stretch::Front(aisle, times) => put(uses, front(house, aisle), times),
+            Stretch::Back(aisle, times) => put(uses, back(house, aisle), times),
+            Stretch::All(times) => put_all(house, uses, times),
         }
     }
 }
@@ -87,9 +66,7 @@ pub fn lay(house: House, stretches: &[Stretch], uses: &mut [u8]) {
 fn used_up(rt: &impl Abort, house: House, way: &[u8], uses: &mut [u8]) -> Result<Spot, Fail> {
     let mut at = Spot { aisle: 0, depth: 0 };
     for byte in way {
-        let Some(step) = Step::of(*byte) else {
-            return Err(Fail::new(format_args!("no step: {byte}")));
-        };
+        let step = Step::try_from(*byte)?;
         let Some((entry, to)) = look(house, at, step) else {
             return Err(Fail::new(format_args!("leads out: {byte}")));
         };
@@ -106,25 +83,22 @@ fn check_same(rt: &impl Abort, found: &[u8], wanted: &[u8]) {
     assert_eq!(rt; found, wanted);
 }
 
-// The first n bytes are a way that ends at the desk, uses everything and is so long; the rest is as it was.
+// The first bytes are a way that ends at the desk, uses everything and is so long; the rest is as it was.
 fn check_tour(
     rt: &impl Abort,
     house: House,
     before: &mut [u8],
     steps: &[u8],
-    n: usize,
-    length: u32,
+    walked: Walked,
 ) -> Result<(), Fail> {
-    if n > steps.len() {
-        return Err(Fail::new(format_args!("{n} steps")));
+    if walked.steps > steps.len() {
+        return Err(Fail::new(format_args!("{} steps", walked.steps)));
     }
-    let (way, rest) = steps.split_at(n);
-    assert_eq!(rt; measure(house, way), u128::from(length));
+    let (way, rest) = steps.split_at(walked.steps);
+    assert_eq!(rt; measure(house, way), u128::from(walked.length));
     let end = used_up(rt, house, way, before)?;
     assert_eq!(rt; (end.aisle, end.depth), (0, 0));
-    for byte in rest {
-        assert_eq!(rt; *byte, 9);
-    }
+    assert!(rt; rest.iter().all(|&byte| byte == 9));
     Ok(())
 }
 
@@ -138,8 +112,8 @@ pub fn check_answer(
     wanted: Answer,
 ) -> Result<(), Fail> {
     match wanted {
-        Answer::Tour(n, length) => check_tour(rt, house, before, steps, n, length)?,
-        Answer::NotRound | Answer::Refused(_, _) => check_same(rt, steps, &[9; 26000]),
+        Ok(walked) => check_tour(rt, house, before, steps, walked)?,
+        Err(_) => check_same(rt, steps, &[9; 26000]),
     }
     check_same(rt, uses, before);
     Ok(())
@@ -147,15 +121,14 @@ pub fn check_answer(
 
 pub fn check_case(rt: &impl Abort, i: usize, case: Case) -> Result<(), Fail> {
     let Case([aisles, deep, apart], stretches, wanted) = case;
-    let Ok(house) = house::read(&[aisles, deep, apart]) else {
-        return Err(Fail::new(format_args!("no house")));
-    };
+    let house = house::read(&[aisles, deep, apart])?.house;
     let mut uses = [7; 13000];
     let mut steps = [9; 26000];
-    blank(house, &mut uses);
+    // no use in the house, and 7 beyond
+    put_all(house, &mut uses, 0);
     lay(house, stretches, &mut uses);
     let mut before = uses;
-    let answer = answer_to(walk_uses(house, &mut uses, &mut steps));
+    let answer = walk_uses(house, &mut uses, &mut steps);
     assert_eq!(rt; answer, wanted, "case {i}");
     check_answer(rt, house, &mut before, &uses, &steps, wanted)
 }

@@ -1,7 +1,6 @@
 // Memory that is too short, and uses that are too many: refused, and all memory stays as it was.
-use crate::case::Answer::{Refused, Tour};
 use crate::case::Stretch::All;
-use crate::case::{Answer, Case, answer_to, check_cases};
+use crate::case::{Answer, Case, FEW_STEPS, FEW_USES, check_cases, tour};
 use euler::walk_uses;
 use std::process::Abort;
 use std::test::Fail;
@@ -11,9 +10,9 @@ fn too_many_uses(rt: HostRuntime) -> Result<(), Fail> {
     check_cases(
         &rt,
         &[
-            Case([64, 200, 200], &[All(3)], Refused(9, 2)),
-            Case([64, 200, 200], &[All(255)], Refused(9, 2)),
-            Case([1, 200, 1], &[All(130)], Refused(9, 2)),
+            Case([64, 200, 200], &[All(3)], FEW_STEPS),
+            Case([64, 200, 200], &[All(255)], FEW_STEPS),
+            Case([1, 200, 1], &[All(130)], FEW_STEPS),
         ],
     )
 }
@@ -24,25 +23,19 @@ fn check_short(
     steps: &mut [u8],
     wanted: Answer,
 ) -> Result<(), Fail> {
-    let Ok(house) = house::read(&[1, 2, 1]) else {
-        return Err(Fail::new(format_args!("no house")));
-    };
-    assert_eq!(rt; answer_to(walk_uses(house, uses, steps)), wanted);
-    for byte in uses {
-        assert_eq!(rt; *byte, 0);
-    }
-    for byte in steps {
-        assert_eq!(rt; *byte, 9);
-    }
+    let house = house::read(&[1, 2, 1])?.house;
+    assert_eq!(rt; walk_uses(house, uses, steps), wanted);
+    assert!(rt; uses.iter().all(|&byte| byte == 0));
+    assert!(rt; steps.iter().all(|&byte| byte == 9));
     Ok(())
 }
 
 #[test]
 fn short_memory(rt: HostRuntime) -> Result<(), Fail> {
-    check_short(&rt, &mut [0; 12925], &mut [9; 25852], Refused(9, 3))?;
-    check_short(&rt, &mut [0; 12926], &mut [9; 25851], Refused(9, 2))?;
-    check_short(&rt, &mut [0; 12925], &mut [9; 25851], Refused(9, 2))?;
-    check_short(&rt, &mut [0; 0], &mut [9; 0], Refused(9, 2))?;
-    check_short(&rt, &mut [0; 0], &mut [9; 25852], Refused(9, 3))?;
-    check_short(&rt, &mut [0; 12926], &mut [9; 25852], Tour(0, 0))
+    check_short(&rt, &mut [0; 12925], &mut [9; 25852], FEW_USES)?;
+    check_short(&rt, &mut [0; 12926], &mut [9; 25851], FEW_STEPS)?;
+    check_short(&rt, &mut [0; 12925], &mut [9; 25851], FEW_STEPS)?;
+    check_short(&rt, &mut [0; 0], &mut [9; 0], FEW_STEPS)?;
+    check_short(&rt, &mut [0; 0], &mut [9; 25852], FEW_USES)?;
+    check_short(&rt, &mut [0; 12926], &mut [9; 25852], tour(0, 0))
 }

@@ -1,7 +1,6 @@
 // Uses that are round.
-use crate::case::Answer::Tour;
 use crate::case::Stretch::{All, Back, Front, Lane};
-use crate::case::{Case, check_cases};
+use crate::case::{Case, check_cases, tour};
 use std::test::Fail;
 
 // The uses of shortest tours.
@@ -10,8 +9,8 @@ fn shortest(rt: HostRuntime) -> Result<(), Fail> {
     check_cases(
         &rt,
         &[
-            Case([1, 10, 3], &[], Tour(0, 0)),
-            Case([1, 10, 3], &[Lane(0, 0, 4, 2)], Tour(8, 8)),
+            Case([1, 10, 3], &[], tour(0, 0)),
+            Case([1, 10, 3], &[Lane(0, 0, 4, 2)], tour(8, 8)),
             Case(
                 [2, 10, 3],
                 &[
@@ -20,7 +19,7 @@ fn shortest(rt: HostRuntime) -> Result<(), Fail> {
                     Lane(1, 0, 10, 1),
                     Front(0, 1),
                 ],
-                Tour(22, 26),
+                tour(22, 26),
             ),
             Case(
                 [3, 10, 2],
@@ -32,7 +31,7 @@ fn shortest(rt: HostRuntime) -> Result<(), Fail> {
                     Front(1, 1),
                     Front(0, 1),
                 ],
-                Tour(24, 28),
+                tour(24, 28),
             ),
             Case(
                 [3, 6, 5],
@@ -43,7 +42,7 @@ fn shortest(rt: HostRuntime) -> Result<(), Fail> {
                     Front(0, 2),
                     Front(1, 2),
                 ],
-                Tour(22, 38),
+                tour(22, 38),
             ),
             Case(
                 [4, 12, 3],
@@ -59,7 +58,7 @@ fn shortest(rt: HostRuntime) -> Result<(), Fail> {
                     Front(1, 1),
                     Front(0, 1),
                 ],
-                Tour(44, 56),
+                tour(44, 56),
             ),
         ],
     )
@@ -83,7 +82,7 @@ fn joined(rt: HostRuntime) -> Result<(), Fail> {
                     Back(0, 1),
                     Back(1, 1),
                 ],
-                Tour(20, 24),
+                tour(20, 24),
             ),
             // a ring at the end of the front way
             Case(
@@ -96,7 +95,7 @@ fn joined(rt: HostRuntime) -> Result<(), Fail> {
                     Front(2, 1),
                     Back(2, 1),
                 ],
-                Tour(18, 18),
+                tour(18, 18),
             ),
             // stretches that are gone into and come back from, at every end
             Case(
@@ -110,11 +109,11 @@ fn joined(rt: HostRuntime) -> Result<(), Fail> {
                     Lane(1, 3, 5, 4),
                     Lane(2, 0, 1, 2),
                 ],
-                Tour(30, 36),
+                tour(30, 36),
             ),
-            Case([2, 2, 1], &[All(1)], Tour(6, 6)),
-            Case([1, 2, 1], &[Lane(0, 0, 2, 254)], Tour(508, 508)),
-            Case([2, 5, 3], &[All(4)], Tour(48, 64)),
+            Case([2, 2, 1], &[All(1)], tour(6, 6)),
+            Case([1, 2, 1], &[Lane(0, 0, 2, 254)], tour(508, 508)),
+            Case([2, 5, 3], &[All(4)], tour(48, 64)),
         ],
     )
 }
@@ -125,12 +124,12 @@ fn all_of_it(rt: HostRuntime) -> Result<(), Fail> {
     check_cases(
         &rt,
         &[
-            Case([1, 2, 1], &[All(2)], Tour(4, 4)),
-            Case([8, 125, 3], &[All(2)], Tour(2028, 2084)),
-            Case([64, 2, 7], &[All(2)], Tour(508, 2020)),
-            Case([64, 200, 1], &[All(2)], Tour(25852, 25852)),
-            Case([64, 200, 200], &[All(2)], Tour(25852, 76000)),
-            Case([1, 200, 1], &[All(128)], Tour(25600, 25600)),
+            Case([1, 2, 1], &[All(2)], tour(4, 4)),
+            Case([8, 125, 3], &[All(2)], tour(2028, 2084)),
+            Case([64, 2, 7], &[All(2)], tour(508, 2020)),
+            Case([64, 200, 1], &[All(2)], tour(25852, 25852)),
+            Case([64, 200, 200], &[All(2)], tour(25852, 76000)),
+            Case([1, 200, 1], &[All(128)], tour(25600, 25600)),
         ],
     )
 }

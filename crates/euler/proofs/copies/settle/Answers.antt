@@ -1,21 +1,21 @@
-use Rattle.std.proofs.Common.{refl, ◌∙◌, arith}
-use Rattle.euler.proofs.Settling.{closes_copied, copied_back}
+use Rattle.std.proofs.Common.{drop, refl, arith}
+use Rattle.euler.proofs.Settling.{closes_copied, kept_behind, copied_back}
 use Rattle.euler.proofs.copies.settle.Goals as goal
 
 pub returns-then-not-trace : goal.returns-then-not-trace
-returns-then-not-trace c = (
-  c.if-not-trace.ensures.decides,
-  copied_back c.args.uses.now c.copy-then-not-trace.new.to c.places-places.result (omega arith)
-      (λ k l. c.copy-then-not-trace.ensures.copied k l ∙ c.copy.ensures.copied k l)
-      (λ k l. c.copy-then-not-trace.ensures.kept k l ∙ c.if-not-trace.ensures.beyond k (omega arith)),
-  refl,
-)
+returns-then-not-trace c =
+    let n = c.places-places.result in (
+      c.if-not-trace.ensures.decides,
+      copied_back c.args.uses.now c.trace.new.left n (drop n c.args.left.now) (omega arith) (omega arith)
+          (λ k l. c.if-not-trace.ensures.beyond k (omega arith)) c.copy_from_slice.ensures.after c.copy_from_slice-then-not-trace.ensures.after,
+      refl,
+    )
 
 pub returns : goal.returns
 returns c =
     record {
-      closes = closes_copied _ _ _ _ _ (omega arith) (omega arith) c.copy-2.ensures.copied c.if-not-trace.ensures.decides;
-      kept = c.copy-2.ensures.kept;
+      closes = closes_copied c.args.n c.trace.new.steps c.args.steps.now c.copy_from_slice-2.ensures.after (omega arith) c.if-not-trace.ensures.decides;
+      kept = kept_behind c.args.n c.trace.new.steps c.args.steps.now c.copy_from_slice-2.ensures.after (omega arith);
       used_up = c.if-not-trace.ensures.used_up refl;
       beyond = c.if-not-trace.ensures.beyond;
     }

@@ -1,8 +1,9 @@
-use Rattle.euler.proofs.Touched.{opens_touch, shut_misses}
+use Rattle.std.proofs.Common.{◌∙◌}
+use Rattle.house.specs.Reading.{house_of, spot_of}
+use Rattle.euler.proofs.Touched.{chosen_touches}
 use Rattle.euler.proofs.touching.touched.Goals as goal
 
-pub returns-in-Some : goal.returns-in-Some
-returns-in-Some c = opens_touch _ _ c.requires.0 c.in-Some.ensures
-
-pub returns-in-None : goal.returns-in-None
-returns-in-None c = shut_misses _ _ _ c.in-None.ensures
+pub returns : goal.returns
+returns c =
+    let at = c.args.at in
+    c.is_some.ensures ∙ chosen_touches (house_of at.house) at.entries.now (spot_of at.at) c.choose.result at.inside c.choose.ensures

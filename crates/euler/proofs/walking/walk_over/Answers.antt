@@ -1,6 +1,7 @@
+use Rattle.std.proofs.Common.{true}
 use Rattle.euler.proofs.Touring.{settles_over}
 use Rattle.euler.proofs.walking.walk_over.Goals as goal
 
-pub returns : goal.returns
-returns c =
-    settles_over _ _ c.close.new.uses c.args.steps.now c.close.new.steps c.requires.0 c.close.result c.close.ensures
+pub returns-then-close : goal.returns-then-close
+returns-then-close c =
+    (c.requires.1, settles_over _ _ c.close.new.uses c.args.steps.now c.close.new.steps c.requires.0 true c.if-close.ensures)
