@@ -1,18 +1,10 @@
 -- Counts that are taken over into a slice with room for them. Assumes nothing.
-use Rattle.std.proofs.Common.{◌≡◌, ℕ, ◌+◌, ◌-◌, ◌<◌, ◌≤◌, List, ◌++◌, length, get_or, take, drop, None, Option, ap, ◌∙◌, inl, inr, arith, length-take-le, get_or-drop, get_or-take}
+use Rattle.std.proofs.Common.{◌≡◌, ℕ, ◌+◌, ◌-◌, ◌<◌, ◌≤◌, List, ◌++◌, length, get_or, take, drop, ap, ◌∙◌, arith, length-take-le, get_or-drop, get_or-take}
 use Rattle.std.proofs.lemmas.List.{get_or_append_left, get_or-append_right}
-use Rattle.std.proofs.lemmas.Bool.Decides.{leb_tells}
 use Rattle.house.specs.House.{House, desk}
-use Rattle.house.specs.Rules.{or_else}
-use Rattle.house.specs.declared.refusal.Refusal.{Refusal}
 use Rattle.uses.specs.Counting.{used_by, Exact, Counted}
 use Rattle.uses.specs.Layout.{place, places}
-use Rattle.uses.specs.Room.{room_rule}
 use Rattle.uses.proofs.Places.{place_below}
-
--- a slice that is not refused has the room
-pub room_enough : (len : ℕ) (next : Option Refusal) → or_else (room_rule len) next ≡ None → 12926 ≤ len
-room_enough len next e = elim (leb_tells 12926 len) [ inl t ↦ t.1 | inr t ↦ absurd (let z : ◌≡◌ {A = ℕ} 0 1 = cc t.0 in omega arith) ]
 
 -- the first n counts, and then what a slice held before
 module _ (h : House) (counts : List ℕ) {way before : List ℕ} (n : ℕ) (size : n ≡ places h) where

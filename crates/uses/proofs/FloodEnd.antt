@@ -1,7 +1,7 @@
 -- A flood begins at the desk and leaves spot after spot; in the end it has seen the spots that are linked with the desk, and no others. Assumes nothing.
-use Rattle.std.proofs.Common.{◌≡◌, ℕ, ◌+◌, ◌*◌, ◌<◌, ◌≤◌, false, ◌⊎◌, List, [], ◌∷◌, length, get_or, replicate, Some, None, sym, ap, ◌∙◌, subst, inl, inr, arith, length-append}
-use native.Mathlib.Decide.{ℕ_discrete, dec_lt}
-use Rattle.std.proofs.lemmas.List.{length-replicate, get_or-replicate, get_or_past, get_or_append_left}
+use Rattle.std.proofs.Common.{◌≡◌, ℕ, ◌+◌, ◌*◌, ◌<◌, ◌≤◌, false, ◌⊎◌, List, [], ◌∷◌, length, Some, None, sym, ap, ◌∙◌, subst, inl, inr, arith, length-append}
+use native.Mathlib.Decide.{ℕ_discrete}
+use Rattle.std.proofs.lemmas.List.{length-replicate, get_or_append_left}
 use Rattle.std.proofs.Math.Seq.{get_or-append_seam}
 use Rattle.graph.specs.Graph.{Ends, here}
 use Rattle.graph.proofs.Links.{keeps}
@@ -14,6 +14,7 @@ use Rattle.uses.specs.Edges.{Edge, In, house_graph}
 use Rattle.uses.specs.Flood.{Flooding, left, code_of, waits_too, offered, spread, Pops, dry, TellsLinked}
 use Rattle.uses.specs.Layout.{held_in}
 use Rattle.uses.specs.Looking.{edge_by}
+use Rattle.uses.proofs.Filled.{filled}
 use Rattle.uses.proofs.FloodLook.{Looked, looked_around}
 use Rattle.uses.proofs.FloodOffer.{offer_on}
 use Rattle.uses.proofs.Floods.{Seen, spot_at, Waits, Good}
@@ -34,15 +35,9 @@ module _ (h : House) (us : List ℕ) where
   left_on : (f g : Flooding) (s : Spot) → ((t : Spot) → Seen f t → Seen g t) → Left f s → Left g s
   left_on f g s seen_on left b t l m p = seen_on t (left b t l m p)
 
-none_seen : (n k : ℕ) → get_or (replicate n false) k false ≡ false
-none_seen n k = elim (dec_lt k n) [
-  | yes l ↦ get_or-replicate n k false false l
-  | no l ↦ get_or_past (replicate n false) k false (omega (arith, length-replicate n false))
-]
-
 module _ (h : House) (us : List ℕ) (few : h.aisles ≤ 64) (low : h.deep ≤ 200) where
   dry_unseen : (s : Spot) → Seen dry s → ⊥
-  dry_unseen s k = let z = none_seen 12864 (201 * s.aisle + s.depth) in let e : ◌≡◌ {A = ℕ} 0 1 = cc (z, k) in omega arith
+  dry_unseen s k = let z = filled 12864 (201 * s.aisle + s.depth) false in let e : ◌≡◌ {A = ℕ} 0 1 = cc (z, k) in omega arith
 
   dry_good : Good h us dry
   dry_good = record {

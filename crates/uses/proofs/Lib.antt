@@ -5,6 +5,7 @@ pub mod Degree
 pub mod DegreeSingle
 pub mod DegreeSum
 pub mod DegreeUsed
+pub mod Filled
 pub mod FloodEnd
 pub mod FloodLook
 pub mod FloodOffer

@@ -65,10 +65,6 @@ module _ (h : House) (us : List ℕ) (seen : List Bool) where
       let tells = below_tells (fine_aisle h us seen) h.aisles in
       (λ e a l. (aisle_tells a).0 (tells.0 (sym is ∙ e) a l), λ f. is ∙ tells.1 (λ a l. (aisle_tells a).1 (f a l)))
 
--- and that of the picks
-pub seen_decides : (picks : List Spot) (seen : List Bool) {r : Bool} → r ≡ list_all (has seen) picks → Decides r (PicksSeen picks seen)
-seen_decides picks seen is = let tells = list_all_tells (has seen) picks desk in (λ e. tells.0 (sym is ∙ e), λ f. is ∙ tells.1 f)
-
 module _ (h : House) (picks : List Spot) (us : List ℕ) (seen : List Bool) (linked : TellsLinked h us seen) (inside : (i : ℕ) → i < length picks → Within h (get_or picks i desk)) where
   round_house : Round h picks (uses_in h us) → FineHouse h us seen
   round_house r a i y j =

@@ -1,9 +1,10 @@
 -- Counting along a way, step by step: where its first i steps lead, and how often they use each edge. Assumes nothing.
 use Rattle.std.proofs.Common.{◌≡◌, ℕ, ◌+◌, ◌<◌, ◌≤◌, List, length, get_or, take, set, replicate, Some, None, Err, Option, Result, sym, refl, ap, ◌∙◌, arith}
-use native.Mathlib.Decide.{dec_lt}
 use Rattle.std.specs.Option.{ok_or}
-use Rattle.std.proofs.lemmas.List.{take_more, take_all, get_or-set_same, get_or-set_other, get_or-replicate, get_or_past, length-replicate}
+use Rattle.std.proofs.lemmas.List.{take_more, take_all, get_or-set_same, get_or-set_other}
 use Rattle.house.specs.House.{House, Spot, desk}
+use Rattle.house.specs.declared.layout.Spot as code
+use Rattle.house.specs.declared.refusal.Refusal.TheVariants.{LeadsOut}
 use Rattle.walk.specs.Steps.{Within, landing, follow}
 use Rattle.walk.specs.Checking.{exit_from}
 use Rattle.walk.proofs.Lands.{landing_within, desk_within}
@@ -12,22 +13,21 @@ use Rattle.walk.proofs.Exit.{no_exit, exit_at}
 use Rattle.uses.specs.Counting.{used_by, Exact, Overfills}
 use Rattle.uses.specs.Edges.{Edge, In, edge_dec}
 use Rattle.uses.specs.Layout.{place, held_in}
-use Rattle.uses.specs.Looking.{edge_by, Sees}
+use Rattle.uses.specs.Looking.{edge_by, Sees, Looks, TakesStep}
+use Rattle.uses.proofs.Filled.{filled}
 use Rattle.uses.proofs.Places.{place_alone}
 use Rattle.uses.proofs.Single.{single, single_same, single_other}
 use Rattle.uses.proofs.Taken.{joins_of_landing}
 use Rattle.uses.proofs.UsedBy.{used_none, used_push}
 
-all_zero : (n k : ℕ) → ◌≡◌ {A = ℕ} (get_or (replicate n 0) k 0) 0
-all_zero n k = elim (dec_lt k n) [
-  | yes l ↦ get_or-replicate n k 0 0 l
-  | no l ↦ get_or_past (replicate n 0) k 0 (omega (arith, length-replicate {A = ℕ} n 0))
-]
-
 -- an error in place of what is missing: nothing was there, and the error is the one that was given
 pub told_out : {X E : Type 0} (o : Option X) (e f : E) {r : Result X E} → r ≡ ok_or o e → r ≡ Err f → (o ≡ None) × (e ≡ f)
 told_out (Some x) e f p q = let z : ◌≡◌ {A = ℕ} 0 1 = cc in absurd (omega arith)
 told_out None e f p q = (refl, cc)
+
+pub takes : (h : House) (s : Spot) (b i : ℕ) (o : Option (ℕ × code.Spot)) → Looks h s b o → TakesStep h s b i (ok_or o (LeadsOut i))
+takes h s b i (Some p) sees = sees
+takes h s b i None out = (out, refl)
 
 module _ (h : House) (way : List ℕ) where
   -- after i steps the way is at a spot of the house
@@ -60,7 +60,7 @@ module _ (h : House) (way : List ℕ) where
   pub tally_none : (us : List ℕ) (n : ℕ) → 1 ≤ h.aisles → us ≡ replicate n 0 → Tally us 0 desk
   tally_none us n k z = record {
     reach = reach_none k;
-    exact = λ e i. ap (λ (xs : List ℕ). held_in h xs e) z ∙ all_zero n (place h e) ∙ sym (used_none h e desk);
+    exact = λ e i. ap (λ (xs : List ℕ). held_in h xs e) z ∙ filled n (place h e) 0 ∙ sym (used_none h e desk);
   }
 
   module _ (us : List ℕ) (i : ℕ) (at : Spot) (tally : Tally us i at) (k : i < length way) {entry : ℕ} {next : Spot} (seen : Sees h at (get_or way i 0) entry next) where

@@ -4,7 +4,7 @@ ghost use Rattle.house.specs.Reading.{house_of, spot_of, PassesOn};
 ghost use Rattle.walk.specs.Checking.{exit_rule};
 ghost use Rattle.uses.specs.Counting.{count_rule, Adds, Tallies, Counts};
 ghost use Rattle.uses.specs.Layout.{places};
-ghost use Rattle.uses.specs.Looking.{Looks};
+ghost use Rattle.uses.specs.Looking.{Looks, TakesStep};
 
 use crate::layout::places;
 use crate::looking::look;
@@ -20,13 +20,20 @@ fn look_by(house: House, from: Spot, byte: u8) -> Option<(usize, Spot)>
     look(house, from, Step::try_from(byte).ok()?)
 }
 
+// The i-th step of a way, taken from a spot.
+fn take_step(house: House, from: Spot, i: usize, byte: u8) -> Result<(usize, Spot), Refusal>
+    ensures { TakesStep (house_of house) (spot_of from) byte i result }
+{
+    look_by(house, from, byte).ok_or(Refusal::LeadsOut(i))
+}
+
 // Holds each step of a way to the house.
 fn stays_in<'a>(house: House, way: &'a [u8]) -> Result<&'a [u8], Refusal>
     ensures { PassesOn way.now (exit_rule (house_of house) way.now) result }
 {
     let mut at = DESK;
     for (i, byte) in way.iter().enumerate() {
-        (_, at) = look_by(house, at, *byte).ok_or(Refusal::LeadsOut(i))?;
+        (_, at) = take_step(house, at, i, *byte)?;
     }
     Ok(way)
 }
@@ -41,13 +48,14 @@ fn add(counts: &mut [u8], entry: usize) -> Option<()>
 }
 
 // Counts the uses of a way into entries that are all 0.
+// Kept: (d) `stays_in` walks as this does, but a walk that takes a closure for what each step does would be longer than these two loops.
 fn tally(house: House, way: &[u8], counts: &mut [u8]) -> Result<(), Miscount>
     requires { counts.old ≡ replicate 12926 0 }
     ensures { Tallies (house_of house) way.now counts.new result }
 {
     let mut at = DESK;
     for (i, byte) in way.iter().enumerate() {
-        let (entry, next) = look_by(house, at, *byte).ok_or(Refusal::LeadsOut(i))?;
+        let (entry, next) = take_step(house, at, i, *byte)?;
         add(counts, entry).ok_or(Miscount::Overfull(i))?;
         at = next;
     }

@@ -6,6 +6,7 @@ use house::Spot;
 use std::marker::Model;
 use walk::DESK;
 
+// Kept: (a) fixed memory and no heap are rules of the project, so an array and its top stand where a Vec would.
 #[derive(Drop)]
 pub(crate) struct Stack {
     spots: [Spot; 12864],
