@@ -1,14 +1,10 @@
 -- Picks in order, part by part: the run of an aisle holds exactly the picks of this aisle, and what follows it those of the aisles after. Assumes nothing.
-use Rattle.std.proofs.Common.{◌≡◌, ℕ, suc, ◌+◌, ◌-◌, ◌<◌, ◌≤◌, Bool, true, false, cond, eqb, List, [], ◌∷◌, take, drop, sym, refl, ap, ◌∙◌, subst, arith, ne_eqb, eqb-true}
+use Rattle.std.proofs.Common.{◌≡◌, ℕ, suc, ◌<◌, ◌≤◌, Bool, true, false, cond, eqb, List, [], ◌∷◌, take, drop, sym, refl, ap, ◌∙◌, arith, ne_eqb, eqb-true}
 use borrow.Author.Tests.{eqb-false}
-use Rattle.std.proofs.lemmas.List.{take-map, drop-map, drop-drop}
 use Rattle.std.proofs.lemmas.Bool.Decides.{nat_tests}
 use Rattle.house.specs.House.{Spot}
-use Rattle.house.specs.Reading.{spot_of}
-use Rattle.house.specs.declared.layout.Spot as code
 use Rattle.aisle.specs.Order.{before, NoneBefore, InOrder, depths_in, run}
 use Rattle.aisle.specs.Reach.{depths_of}
-use Rattle.aisle.specs.Values.{spots_of}
 
 -- no aisle before a is named
 abbrev pub FromAisle : ℕ → List Spot → Type 0
@@ -79,18 +75,3 @@ module _ (ss : List Spot) (a : ℕ) (rest : List Spot) (from : FromPlace ss a re
   from_next =
       let r = run_splits a rest from.order from.later in
       record { order = r.order; later = r.later; same = λ b l. r.others b (omega arith) ∙ from.same b (omega arith) }
-
--- the same of the code's spots, by the places where a part begins and ends
-module _ (ss : List Spot) (xs : List code.Spot) (a from end : ℕ) (at : FromPlace ss a (spots_of (drop from xs))) (ends : end ≡ from + run a (spots_of (drop from xs))) where
-  pub part_depths : depths_of (spots_of (take (end - from) (drop from xs))) ≡ depths_in ss a
-  part_depths =
-      let long : end - from ≡ run a (spots_of (drop from xs)) = omega arith in
-      ap depths_of (sym (take-map spot_of (end - from) (drop from xs)) ∙ ap (λ (k : ℕ). take k (spots_of (drop from xs))) long)
-      ∙ run_is_part ss a (spots_of (drop from xs)) at
-
-  pub part_next : FromPlace ss (suc a) (spots_of (drop end xs))
-  part_next =
-      subst (FromPlace ss (suc a))
-      (drop-map spot_of (run a (spots_of (drop from xs))) (drop from xs)
-      ∙ ap spots_of (drop-drop (run a (spots_of (drop from xs))) from xs ∙ ap (λ (k : ℕ). drop k xs) (sym ends)))
-      (from_next ss a (spots_of (drop from xs)) at)
