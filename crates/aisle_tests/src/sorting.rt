@@ -1,7 +1,6 @@
 // The picks of a list in order of aisle and then depth, in lent memory.
 use aisle::{part_end, sort_picks};
 use house::{Refusal, Spot, read};
-use std::test::Fail;
 
 // What the memory holds before anything is written to it: no house has such a spot.
 const OTHER: Spot = Spot {
@@ -40,13 +39,10 @@ fn entry(want: &[(u8, u8)], i: usize) -> (u8, u8) {
 }
 
 #[test]
-fn lists_in_order(rt: HostRuntime) -> Result<(), Fail> {
+fn lists_in_order(rt: HostRuntime) {
     for Row(file, want) in &ROWS {
         let mut lent = [OTHER; 600];
-        let Ok(n) = sort_file(file, &mut lent) else {
-            return Err(Fail::new("refused"));
-        };
-        assert_eq!(rt; n, want.len());
+        assert_eq!(rt; sort_file(file, &mut lent), Ok(want.len()));
         for (i, spot) in lent.iter().enumerate() {
             assert_eq!(rt;
                 (spot.aisle, spot.depth),
@@ -55,7 +51,6 @@ fn lists_in_order(rt: HostRuntime) -> Result<(), Fail> {
             );
         }
     }
-    Ok(())
 }
 
 // 512 picks in aisle 1 of two, the deepest first.
@@ -70,12 +65,9 @@ fn full_list() -> [u8; 1027] {
 }
 
 #[test]
-fn one_aisle_with_512_picks(rt: HostRuntime) -> Result<(), Fail> {
+fn one_aisle_with_512_picks(rt: HostRuntime) {
     let mut lent = [OTHER; 512];
-    let Ok(n) = sort_file(&full_list(), &mut lent) else {
-        return Err(Fail::new("refused"));
-    };
-    assert_eq!(rt; n, 512);
+    assert_eq!(rt; sort_file(&full_list(), &mut lent), Ok(512));
     let mut before = 0;
     for (i, spot) in lent.iter().enumerate() {
         assert!(rt; spot.aisle == 1 && before <= spot.depth, "entry {i}");
@@ -83,7 +75,6 @@ fn one_aisle_with_512_picks(rt: HostRuntime) -> Result<(), Fail> {
     }
     assert_eq!(rt; part_end(&lent, 0, 0), 0);
     assert_eq!(rt; part_end(&lent, 0, 1), 512);
-    Ok(())
 }
 
 // Picks of the aisles 0, 0, 1 and 3.
@@ -119,12 +110,9 @@ fn ends_of_parts(rt: HostRuntime) {
 }
 
 #[test]
-fn short_memory_is_refused(rt: HostRuntime) -> Result<(), Fail> {
+fn short_memory_is_refused(rt: HostRuntime) {
     let mut lent = [OTHER; 511];
-    let Err(refusal) = sort_file(&[3, 10, 2, 1, 4], &mut lent) else {
-        return Err(Fail::new("taken"));
-    };
-    assert_eq!(rt; (refusal.number(), refusal.place()), (9, 0));
+    let sorted = sort_file(&[3, 10, 2, 1, 4], &mut lent);
+    assert_eq!(rt; sorted.map_err(|e| (e.number(), e.place())), Err((9, 0)));
     assert_eq!(rt; lent, [OTHER; 511]);
-    Ok(())
 }
