@@ -1,5 +1,5 @@
 -- Reading is exact: a refusal is that of the lowest rule that is broken, and what is accepted keeps every rule. Assumes nothing.
-use Rattle.std.proofs.Common.{◌≡◌, ℕ, ◌+◌, ◌-◌, ◌*◌, ◌%◌, ◌<◌, ◌≤◌, min, Bool, true, false, ◌&&◌, eqb, leb, ◌⊎◌, List, length, get_or, Some, None, Option, refl, inl, inr, arith, eqb-true, leb-false, leb-true}
+use Rattle.std.proofs.Common.{◌≡◌, ℕ, ◌+◌, ◌-◌, ◌*◌, ◌%◌, ◌<◌, ◌≤◌, min, Bool, true, false, ◌&&◌, eqb, leb, ◌⊎◌, List, length, get_or, Some, None, Option, refl, inl, inr, arith, eqb-true, le-leb, leb-false, leb-true}
 use native.Mathlib.Decide.{ℕ_discrete}
 use borrow.Author.Tests.{eqb-false, clash}
 use Rattle.std.proofs.lemmas.Bool.{and_parts, and_cases}
@@ -12,7 +12,7 @@ use Rattle.house.specs.declared.refusal.Refusal.{Refusal}
 use Rattle.house.specs.declared.refusal.Refusal.TheVariants.{Aisles, Deep, Apart, List as ListSize, NoAisle, NoShelf}
 use Rattle.house.proofs.Told.{Told, told_next, told_unless, told_pick}
 use Rattle.house.proofs.Pairs.{picks_count}
-use Rattle.house.proofs.Tested.{absent_yes, from_absent, outside_yes, from_outside}
+use Rattle.house.proofs.Tested.{outside_yes, from_outside}
 
 within_yes : (lo hi n : ℕ) → within lo hi n ≡ true → (lo ≤ n) × (n ≤ hi)
 within_yes lo hi n e = let z = and_parts _ _ e in (leb-true _ _ z.0, leb-true _ _ z.1)
@@ -45,7 +45,7 @@ module _ (h : House) (Wrong : ℕ → Type 0) (picks : List Spot) where
   size_break p (Breaks.size x) = x
 
   aisle_break : (i : ℕ) → Broken 5 i → (i < length picks) × (absent h.aisles (get_or picks i desk) ≡ true)
-  aisle_break i (Breaks.no_aisle l x) = (l, absent_yes _ (get_or picks i desk) x)
+  aisle_break i (Breaks.no_aisle l x) = (l, le-leb _ _ x)
 
   shelf_break : (i : ℕ) → Broken 6 i → (i < length picks) × (outside h.deep (get_or picks i desk) ≡ true)
   shelf_break i (Breaks.no_shelf l x) = (l, outside_yes _ (get_or picks i desk) x)
@@ -66,7 +66,7 @@ module _ (h : House) (Wrong : ℕ → Type 0) (picks : List Spot) where
   picks_told : Told Broken 5 7 (or_else (at_pick NoAisle (first_from (absent h.aisles) 0 picks)) (at_pick NoShelf (first_from (outside h.deep) 0 picks)))
   picks_told =
       told_next Broken 5 6 7 _ _ (omega arith) (omega arith)
-      (told_pick Broken (absent h.aisles) picks NoAisle 5 (λ i. refl) (λ i. refl) (λ i l e. Breaks.no_aisle l (from_absent _ (get_or picks i desk) e)) aisle_break)
+      (told_pick Broken (absent h.aisles) picks NoAisle 5 (λ i. refl) (λ i. refl) (λ i l e. Breaks.no_aisle l (leb-true _ _ e)) aisle_break)
       (told_pick Broken (outside h.deep) picks NoShelf 6 (λ i. refl) (λ i. refl) (λ i l e. Breaks.no_shelf l (from_outside _ (get_or picks i desk) e)) shelf_break)
 
   -- the rules of the house, then that of the size, then those of the picks

