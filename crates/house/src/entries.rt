@@ -5,6 +5,7 @@ ghost use Rattle.house.specs.Bounds.{picks_of};
 ghost use Rattle.house.specs.Reading.{spot_of, Gets};
 
 use crate::layout::Spot;
+use crate::parts::after;
 use crate::picks::PickList;
 
 // The picks of a list, first to last.
@@ -32,7 +33,7 @@ impl<'a> PickList<'a> {
         ensures { Gets (picks_of self.entry.bytes.now) i result }
     {
         let at = i.checked_mul(2)?;
-        match self.bytes.get(at..)? {
+        match after(self.bytes, at) {
             &[aisle, depth, ..] => Some(Spot { aisle, depth }),
             _ => None,
         }

@@ -26,7 +26,7 @@ pub(crate) fn count_of(file: &[u8]) -> usize
 }
 
 // What follows the first n bytes.
-fn after(bytes: &[u8], n: usize) -> &[u8]
+pub(crate) fn after(bytes: &[u8], n: usize) -> &[u8]
     ensures { result.now ≡ drop n bytes.now }
 {
     bytes.get(n..).unwrap_or(&[])
