@@ -4,6 +4,7 @@ ghost use Rattle.house.specs.Reading.{spot_of};
 ghost use Rattle.euler.specs.Passing.{begun, advanced, retreated, origin};
 
 use house::Spot;
+use walk::{DESK, Step};
 
 // The steps below `top` are the stack, those of a walk from the desk to the spot `at`.
 // The steps from `tail` on are finished, those of a walk from the spot `end` to the desk.
@@ -20,12 +21,11 @@ impl Pass {
     pub(crate) fn begin(n: usize) -> Pass
         ensures { result ≡ begun n }
     {
-        let desk = Spot { aisle: 0, depth: 0 };
         Pass {
             top: 0,
             tail: n,
-            at: desk,
-            end: desk,
+            at: DESK,
+            end: DESK,
         }
     }
 
@@ -59,22 +59,22 @@ fn before(to: Spot, byte: u8) -> Spot
     requires { (to.aisle < 255) × (to.depth < 255) }
     ensures { spot_of result ≡ origin (spot_of to) byte }
 {
-    match byte {
-        0 => Spot {
-            aisle: to.aisle,
+    match Step::try_from(byte) {
+        Ok(Step::Deeper) => Spot {
             depth: to.depth.saturating_sub(1),
+            ..to
         },
-        1 => Spot {
-            aisle: to.aisle,
+        Ok(Step::Back) => Spot {
             depth: to.depth + 1,
+            ..to
         },
-        2 | 4 => Spot {
+        Ok(Step::NextFront | Step::NextBack) => Spot {
             aisle: to.aisle.saturating_sub(1),
-            depth: to.depth,
+            ..to
         },
         _ => Spot {
             aisle: to.aisle + 1,
-            depth: to.depth,
+            ..to
         },
     }
 }
