@@ -101,6 +101,7 @@ fn each_first(left: &[u8]) -> usize
         .unwrap_or(left.len())
 }
 
+// Kept: counted by hand, since over `chunks_exact`, `take_while` and `count` it stays open that each place is used, and `rchunks_exact` has no clause on its runs.
 fn blocks_first(left: &[u8]) -> usize
     ensures within { result ≤ length left.now }
     ensures used { (k : ℕ) → k < result → 0 < slice_index left.now k }

@@ -20,7 +20,7 @@ pub fn walk_uses(house: House, uses: &mut [u8], steps: &mut [u8]) -> Result<Walk
     walk_over(house, uses, steps, walked)
 }
 
-// Makes uses into the steps of a tour past the picks, if they are round for the list. Such uses touch all its picks.
+// Makes uses into the steps of a tour past the picks, if they are round for the list.
 pub fn walk_round(
     picks: PickList<'_>,
     uses: &mut [u8],
@@ -28,8 +28,21 @@ pub fn walk_round(
 ) -> Result<Walked, Unwalked>
     ensures { WalksRound (house_of picks.entry.house) (picks_of picks.entry.bytes.now) uses.old uses.new steps.old steps.new result }
 {
+    let walked = measure(picks.house, uses, steps.len())?;
+    walk_past(picks, uses, steps, walked)
+}
+
+// Uses that are round for a list touch all its picks.
+fn walk_past(
+    picks: PickList<'_>,
+    uses: &mut [u8],
+    steps: &mut [u8],
+    walked: Walked,
+) -> Result<Walked, Unwalked>
+    requires { Measures (house_of picks.house) uses.old (length steps.old) (Ok walked) }
+    ensures { WalksRound (house_of picks.entry.house) (picks_of picks.entry.bytes.now) uses.old uses.new steps.old steps.new result }
+{
     let house = picks.house;
-    let walked = measure(house, uses, steps.len())?;
     let entries = &*uses;
     if !touches_all(picks, HouseUses { house, entries }) {
         return Err(Unwalked::NotRound);

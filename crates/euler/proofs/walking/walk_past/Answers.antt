@@ -1,11 +1,11 @@
 use Rattle.std.proofs.Common.{refl}
 use Rattle.house.specs.Bounds.{picks_of}
 use Rattle.euler.proofs.Touched.{misses_round, touched_past}
-use Rattle.euler.proofs.walking.walk_round.Goals as goal
+use Rattle.euler.proofs.walking.walk_past.Goals as goal
 
 pub returns-then-not-touches_all : goal.returns-then-not-touches_all
 returns-then-not-touches_all c =
-    (c.in_ok-walked.ensures.1, misses_round _ _ (λ i l. (c.args.picks.on_shelves i l).0) c.if-not-touches_all.ensures, (refl, refl))
+    (c.requires.1, misses_round _ _ (λ i l. (c.args.picks.on_shelves i l).0) c.if-not-touches_all.ensures, (refl, refl))
 
 pub returns : goal.returns
 returns c =
