@@ -1,9 +1,8 @@
--- What a row is long, its first byte that is no step, and the first pick that a test finds, as chains of iterators give them. Assumes nothing.
-use Rattle.std.proofs.Common.{◌≡◌, ℕ, suc, ◌+◌, Bool, true, false, cond, not, ltb, List, [], ◌∷◌, Some, refl, ap, add-one}
+-- What a row is long, and its first byte that is no step, as chains of iterators give them. Assumes nothing.
+use Rattle.std.proofs.Common.{◌≡◌, ℕ, suc, ◌+◌, true, false, cond, not, ltb, List, [], ◌∷◌, Some, refl, add-one}
 use Rattle.std.specs.List.{sum_by, position_from}
 use Rattle.std.proofs.lemmas.List.Recursion.{is_sum_by}
-use Rattle.house.specs.House.{House, Spot}
-use Rattle.house.specs.Rules.{first_from}
+use Rattle.house.specs.House.{House}
 use Rattle.walk.specs.Steps.{worth, measure}
 use Rattle.walk.specs.Checking.{stray_from}
 
@@ -19,8 +18,3 @@ stray_position i (b ∷ bs) =
       | true ↦ rw (add-one i) (stray_position (suc i) bs)
       | false ↦ refl
     ]
-
-pub first_position : (test : Spot → Bool) (i : ℕ) (ps : List Spot) → first_from test i ps ≡ position_from test i ps
-unfolding first_from
-first_position test i [] = refl
-first_position test i (p ∷ ps) = ap (cond (test p) (Some i)) (rw (add-one i) (first_position test (suc i) ps))

@@ -1,16 +1,17 @@
 -- The first step of a row that leads out: there is none exactly where the row leads somewhere, and else the steps before it do. Assumes nothing.
 use Rattle.std.proofs.Common.{◌≡◌, ℕ, suc, ◌+◌, ◌<◌, ◌⊎◌, List, [], ◌∷◌, ◌++◌, length, get_or, take, drop, Some, None, sym, refl, ap, ◌∙◌, inl, inr, append-nil, arith}
 use Rattle.std.proofs.lemmas.List.{drop_more, take-append-drop, length-take-le}
+use Rattle.std.proofs.lemmas.Option.{none-some}
 use Rattle.house.specs.House.{House, Spot}
 use Rattle.walk.specs.Walk.{Goes, byte_of}
 use Rattle.walk.specs.Steps.{Within, landing, follow}
 use Rattle.walk.specs.Checking.{exit_from}
-use Rattle.walk.proofs.Lands.{landing_of_step, step_of_landing, none_not_some}
+use Rattle.walk.proofs.Lands.{landing_of_step, step_of_landing}
 use Rattle.walk.proofs.Follow.{some_or_none, stays, first, follow_more}
 
 -- no step with this byte exactly where it leads out
 pub no_way : {h : House} {t : Spot} {b : ℕ} → landing h t b ≡ None → (u : Spot) (n : ℕ) (g : Goes h t u n) → byte_of g ≡ b → ⊥
-no_way {h} {t} l u n g e = none_not_some (sym l ∙ ap (landing h t) (sym e) ∙ (landing_of_step g).leads)
+no_way {h} {t} l u n g e = none-some _ (sym l ∙ ap (landing h t) (sym e) ∙ (landing_of_step g).leads)
 
 pub leads_nowhere : {h : House} {t : Spot} {b : ℕ} → Within h t → ((u : Spot) (n : ℕ) (g : Goes h t u n) → byte_of g ≡ b → ⊥) → landing h t b ≡ None
 leads_nowhere {h} {t} {b} k none =

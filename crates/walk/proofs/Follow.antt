@@ -1,8 +1,9 @@
 -- Rows of steps one after the other: where they lead, what they are long and which spots they pass. Assumes nothing.
 use Rattle.std.proofs.Common.{◌≡◌, ℕ, ◌+◌, ◌⊎◌, List, [], ◌∷◌, ◌++◌, Some, None, Option, sym, refl, ap, ◌∙◌, subst, inl, inr, arith}
+use Rattle.std.proofs.lemmas.Option.{none-some}
 use Rattle.house.specs.House.{House, Spot}
 use Rattle.walk.specs.Steps.{Within, landing, worth, follow, measure, reached, trace}
-use Rattle.walk.proofs.Lands.{landing_within, none_not_some}
+use Rattle.walk.proofs.Lands.{landing_within}
 
 pub some_or_none : (o : Option Spot) → ((t : Spot) × (o ≡ Some t)) ⊎ (o ≡ None)
 some_or_none (Some t) = inl (t, refl)
@@ -37,7 +38,7 @@ module _ (h : House) where
     first e =
         elim (some_or_none (landing h s b)) [
           | inl (u, l) ↦ record { on = u; leads = l; rest = sym (follow_more l) ∙ e }
-          | inr l ↦ absurd (none_not_some (sym (follow_out l) ∙ e))
+          | inr l ↦ absurd (none-some _ (sym (follow_out l) ∙ e))
         ]
 
   pub follow_within : (s : Spot) (bs : List ℕ) {t : Spot} → Within h s → follow h s bs ≡ Some t → Within h t

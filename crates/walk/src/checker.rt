@@ -16,7 +16,8 @@ use crate::step::Step;
 use crate::verdict::Verdict;
 use house::{House, PickList, Refusal, Spot, read_claim};
 
-// Judges the way of a file that claims it to be a tour past its picks.
+// Judges the way of a file that claims it to be a tour past its picks. Inside a large caller its loops would lack registers.
+#[inline(never)]
 pub fn check(file: &[u8]) -> Result<Verdict, Refusal>
     ensures { result ≡ check_of file.now }
 {
@@ -32,6 +33,7 @@ pub fn check(file: &[u8]) -> Result<Verdict, Refusal>
 pub fn only_steps(way: &[u8]) -> Result<&[u8], Refusal>
     ensures { PassesOn way.now (step_rule way.now) result }
 {
+    // Kept: the request prescribes that a check hands on its value or returns its refusal by `let .. else`.
     let Some(place) = first_stray(way) else {
         return Ok(way);
     };

@@ -15,6 +15,7 @@ pub const DESK: Spot = Spot { aisle: 0, depth: 0 };
 pub fn landing(house: House, from: Spot, step: Step) -> Option<Spot>
     ensures { option_map spot_of result ≡ landing (house_of house) (spot_of from) (byte_of step) }
 {
+    // Kept: one line for each step says where it leads; closures in a table would say the same, with the steps named once more.
     match step {
         Step::Deeper => further(house, from),
         Step::Back => nearer(from),

@@ -21,12 +21,10 @@ mod tests {
 
     fn file_of(heap: Global, case: Case<'_>) -> Result<Vec<u8>, AllocError> {
         let mut file = Vec::from_slice(heap, &case.house)?;
-        file.push((case.list.len() / 2 % 256) as u8)?;
-        file.push((case.list.len() / 512 % 256) as u8)?;
+        let picks = (case.list.len() / 2).to_le_bytes();
+        file.extend_from_slice(&picks[..2])?;
         file.extend_from_slice(case.list)?;
-        for digit in case.way {
-            file.push(digit.wrapping_sub(b'0'))?;
-        }
+        file.extend(case.way.iter().map(|digit| digit.wrapping_sub(b'0')))?;
         Ok(file)
     }
 
