@@ -2,14 +2,12 @@
 #![tactic(auto)]
 
 use house::Spot;
-use planner::plan;
+use planner::{CELLS, Lent, PICKS, STEPS, USES, plan};
 use std::{env, fs};
 use text::claim;
 
 fn main(rt: HostRuntime) -> anyhow::Result<()> {
-    let mut names = env::args(&rt)?;
-    let _program = names.next();
-    for name in names {
+    for name in env::args(&rt)?.skip(1) {
         plan_case(&rt, &name)?;
     }
     Ok(())
@@ -18,19 +16,19 @@ fn main(rt: HostRuntime) -> anyhow::Result<()> {
 fn plan_case(rt: &HostRuntime, name: &str) -> anyhow::Result<()> {
     let heap = rt.alloc();
     let file = fs::read(rt, name)?;
-    let mut picks = vec![in heap; Spot { aisle: 0, depth: 0 }; 512]?;
-    let mut lengths = vec![in heap; 0u32; 448]?;
-    let mut came = vec![in heap; 0u8; 448]?;
-    let mut steps = vec![in heap; 0u8; 25852]?;
-    let mut uses = vec![in heap; 0u8; 12926]?;
-    match plan(
-        &file,
-        &mut picks,
-        &mut lengths,
-        &mut came,
-        &mut steps,
-        &mut uses,
-    ) {
+    let mut picks = vec![in heap; Spot { aisle: 0, depth: 0 }; PICKS]?;
+    let mut lengths = vec![in heap; 0u32; CELLS]?;
+    let mut came = vec![in heap; 0u8; CELLS]?;
+    let mut steps = vec![in heap; 0u8; STEPS]?;
+    let mut uses = vec![in heap; 0u8; USES]?;
+    let mut memory = Lent {
+        picks: &mut picks,
+        lengths: &mut lengths,
+        came: &mut came,
+        steps: &mut steps,
+        uses: &mut uses,
+    };
+    match plan(&file, &mut memory) {
         Ok(walked) => {
             steps.truncate(walked.steps);
             let length = walked.length;

@@ -10,6 +10,7 @@ use walk::Verdict;
 const HELP: &str = "check [FILE]    judge the way that FILE, or standard input, claims to be a tour
 check --help    print this";
 
+// Kept: `plan` has this too; what comes from outside has no contract, which a library's function needs (d).
 fn input(rt: &HostRuntime, source: Source) -> io::Result<Vec<u8>> {
     match source {
         Source::File(path) => fs::read(rt, path),
@@ -47,11 +48,9 @@ fn run(rt: &HostRuntime, command: CheckCommand) -> anyhow::Result<bool> {
 
 // What goes wrong is told here, and the status is all that is left of it.
 fn main(rt: HostRuntime) -> io::Result<ExitCode> {
-    let mut args = env::args(&rt)?;
-    let _program = args.next();
-    let first = args.next();
-    let second = args.next();
-    let command = match check_command(first.as_deref(), second.as_deref()) {
+    let args: Vec<String> = env::args(&rt)?.skip(1).collect(rt.alloc())?;
+    let args: Vec<&str> = args.iter().map(|arg| arg.as_str()).collect(rt.alloc())?;
+    let command = match check_command(&args) {
         Ok(command) => command,
         Err(misuse) => {
             eprintln!(rt; "check: {misuse}")?;

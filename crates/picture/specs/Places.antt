@@ -36,3 +36,11 @@ end_of s b =
     (cond (b == 1) (point (across s.aisle + 6) (down s.depth + 4))
     (cond (b == 2) (point (across s.aisle - 4) (down s.depth + 6))
     (cond (b == 4) (point (across s.aisle - 4) (down s.depth + 6)) (point (across s.aisle + 4) (down s.depth - 6)))))
+
+-- on the right of a step's line, so far on from a spot's middle and so far short of it: 4 on it is where a row of steps begins, and 4 short of it where one ends
+abbrev pub beside_of : Spot → ℕ → ℕ → ℕ → Point
+beside_of s b on short =
+    cond (b == 0) (point (across s.aisle - 6) (down s.depth + on - short))
+    (cond (b == 1) (point (across s.aisle + 6) (down s.depth + short - on))
+    (cond (b == 2) (point (across s.aisle + on - short) (down s.depth + 6))
+    (cond (b == 4) (point (across s.aisle + on - short) (down s.depth + 6)) (point (across s.aisle + short - on) (down s.depth - 6)))))

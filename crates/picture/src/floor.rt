@@ -4,7 +4,7 @@ ghost use Rattle.house.specs.Reading.{house_of, spot_of};
 ghost use Rattle.picture.specs.Floor.{ways_lines, aisle_line, aisle_lines, pick_line, pick_lines, desk_lines};
 
 use crate::places::{across, down};
-use house::{House, Spot};
+use house::{House, Spot, picks_in};
 use std::alloc::AllocError;
 
 // How the house is drawn; its front way and its back way.
@@ -13,15 +13,13 @@ pub(crate) fn add_ways(text: &mut String, house: House) -> Result<(), AllocError
 {
     let right = across(house.aisles - 1);
     let back = down(house.deep);
-    match writeln!(
+    writeln!(
         text,
         "<g stroke='#e2e8f0' stroke-width='26' stroke-linecap='round' text-anchor='middle'>\n<path d='M72 84H{right}M72 {back}H{right}'/>"
-    ) {
-        Ok(()) => Ok(()),
-        Err(_) => Err(AllocError),
-    }
+    )
 }
 
+#[tactic(auto, unfolding(crate::specs::Floor::aisle_lines))]
 pub(crate) fn add_aisles(text: &mut String, house: House) -> Result<(), AllocError>
     ensures { OnOk result (string_bytes text.new ≡ string_bytes text.old ++ aisle_lines (house_of house) house.aisles) }
 {
@@ -37,13 +35,10 @@ fn add_aisle(text: &mut String, house: House, aisle: u8) -> Result<(), AllocErro
     let x = across(aisle);
     let back = down(house.deep);
     let below = back + 36;
-    match writeln!(
+    writeln!(
         text,
         "<path d='M{x} 84V{back}'/><text x='{x}' y='{below}' stroke='none'>{aisle}</text>"
-    ) {
-        Ok(()) => Ok(()),
-        Err(_) => Err(AllocError),
-    }
+    )
 }
 
 // The desk, and the words beside the front way and the back way.
@@ -51,23 +46,16 @@ pub(crate) fn add_desk(text: &mut String, house: House) -> Result<(), AllocError
     ensures { OnOk result (string_bytes text.new ≡ string_bytes text.old ++ desk_lines (house_of house)) }
 {
     let back = down(house.deep) + 6;
-    match writeln!(
+    writeln!(
         text,
         "</g>\n<rect x='59' y='71' width='26' height='26' fill='#fde68a' stroke='#111827' stroke-width='2'/>\n<text x='12' y='90'>desk</text>\n<text x='12' y='{back}'>back</text>"
-    ) {
-        Ok(()) => Ok(()),
-        Err(_) => Err(AllocError),
-    }
+    )
 }
 
 pub(crate) fn add_picks(text: &mut String, list: &[u8]) -> Result<(), AllocError>
     ensures { OnOk result (string_bytes text.new ≡ string_bytes text.old ++ pick_lines list.now) }
 {
-    for i in 0..list.len() / 2 {
-        let pick = Spot {
-            aisle: list[2 * i],
-            depth: list[2 * i + 1],
-        };
+    for pick in picks_in(list) {
         add_pick(text, pick)?;
     }
     Ok(())
@@ -78,8 +66,5 @@ fn add_pick(text: &mut String, pick: Spot) -> Result<(), AllocError>
 {
     let x = across(pick.aisle);
     let y = down(pick.depth);
-    match writeln!(text, "<circle cx='{x}' cy='{y}' r='5' fill='#c2410c'/>") {
-        Ok(()) => Ok(()),
-        Err(_) => Err(AllocError),
-    }
+    writeln!(text, "<circle cx='{x}' cy='{y}' r='5' fill='#c2410c'/>")
 }

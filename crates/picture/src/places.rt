@@ -1,8 +1,8 @@
 // Where things are drawn. Right-hand traffic: a stretch that is walked there and back shows as two lines.
-ghost use Rattle.std.specs.Prelude.{◌≡◌, Some};
+ghost use Rattle.std.specs.Prelude.{◌≡◌, ◌≤◌, Some};
 ghost use Rattle.house.specs.Reading.{spot_of};
 ghost use Rattle.walk.specs.Codes.{byte_of};
-ghost use Rattle.picture.specs.Places.{across, down, point_text, middle_of, start_of, end_of};
+ghost use Rattle.picture.specs.Places.{across, down, point_text, middle_of, start_of, end_of, beside_of};
 
 use house::Spot;
 use std::fmt;
@@ -18,9 +18,7 @@ impl fmt::Display for Point {
     ghost output = { λ p. Some (point_text p) };
 
     fn fmt<W: fmt::Write>(&self, f: &mut fmt::Formatter<W>) -> fmt::Result {
-        let x = self.x;
-        let y = self.y;
-        write!(f, "{x},{y}")
+        write!(f, "{},{}", self.x, self.y)
     }
 }
 
@@ -49,24 +47,38 @@ pub(crate) fn middle(spot: Spot) -> Point
 pub(crate) fn start(spot: Spot, step: Step) -> Point
     ensures { result ≡ start_of (spot_of spot) (byte_of step) }
 {
-    let Point { x, y } = middle(spot);
-    match step {
-        Step::Deeper => Point { x: x - 6, y: y + 4 },
-        Step::Back => Point { x: x + 6, y: y - 4 },
-        Step::NextFront | Step::NextBack => Point { x: x + 4, y: y + 6 },
-        Step::BeforeFront | Step::BeforeBack => Point { x: x - 4, y: y - 6 },
-    }
+    beside(spot, step, 4, 0)
 }
 
 // Where it ends at one.
 pub(crate) fn end(spot: Spot, step: Step) -> Point
     ensures { result ≡ end_of (spot_of spot) (byte_of step) }
 {
+    beside(spot, step, 0, 4)
+}
+
+// A point on the right of a step's line, so far on from the middle of a spot, or so far short of it.
+fn beside(spot: Spot, step: Step, on: u32, short: u32) -> Point
+    requires { (on ≤ 4) × (short ≤ 4) }
+    ensures { result ≡ beside_of (spot_of spot) (byte_of step) on short }
+{
     let Point { x, y } = middle(spot);
     match step {
-        Step::Deeper => Point { x: x - 6, y: y - 4 },
-        Step::Back => Point { x: x + 6, y: y + 4 },
-        Step::NextFront | Step::NextBack => Point { x: x - 4, y: y + 6 },
-        Step::BeforeFront | Step::BeforeBack => Point { x: x + 4, y: y - 6 },
+        Step::Deeper => Point {
+            x: x - 6,
+            y: y + on - short,
+        },
+        Step::Back => Point {
+            x: x + 6,
+            y: y + short - on,
+        },
+        Step::NextFront | Step::NextBack => Point {
+            x: x + on - short,
+            y: y + 6,
+        },
+        Step::BeforeFront | Step::BeforeBack => Point {
+            x: x + short - on,
+            y: y - 6,
+        },
     }
 }

@@ -20,6 +20,7 @@ pub fn picture(heap: Global, house: House, list: &[u8], way: &[u8]) -> Result<St
 }
 
 // What lies below the way: the length, the house and the picks.
+#[tactic(auto, using(std::proofs::Common::append_assoc), unfolding(crate::specs::Picture::background_of))]
 fn background(heap: Global, house: House, list: &[u8], length: u128) -> Result<String, AllocError>
     ensures { IfOk result (λ s. string_bytes s ≡ background_of (house_of house) list.now length) }
 {
@@ -36,26 +37,20 @@ fn add_open(text: &mut String, house: House) -> Result<(), AllocError>
 {
     let width = across(house.aisles) + 24;
     let height = down(house.deep) + 54;
-    match writeln!(
+    writeln!(
         text,
         "<svg xmlns='http://www.w3.org/2000/svg' viewBox='0 0 {width} {height}' font-family='sans-serif' font-size='16' fill='#111827'>"
-    ) {
-        Ok(()) => Ok(()),
-        Err(_) => Err(AllocError),
-    }
+    )
 }
 
 // The length, as the picture's name and as its heading on a white ground.
 fn add_title(text: &mut String, length: u128) -> Result<(), AllocError>
     ensures { OnOk result (string_bytes text.new ≡ string_bytes text.old ++ title_lines length) }
 {
-    match writeln!(
+    writeln!(
         text,
         "<title>A tour of length {length}</title>\n<marker id='tip' viewBox='0 0 8 8' refX='7' refY='4' markerWidth='4' markerHeight='4' orient='auto'><path d='M0 0L8 4L0 8z' fill='#1d4ed8'/></marker>\n<rect width='100%' height='100%' fill='#ffffff'/>\n<text x='12' y='34' font-size='22'>length {length}</text>"
-    ) {
-        Ok(()) => Ok(()),
-        Err(_) => Err(AllocError),
-    }
+    )
 }
 
 fn add_floor(text: &mut String, house: House) -> Result<(), AllocError>
@@ -63,17 +58,16 @@ fn add_floor(text: &mut String, house: House) -> Result<(), AllocError>
 {
     add_ways(text, house)?;
     add_aisles(text, house)?;
-    add_desk(text, house)?;
-    Ok(())
+    add_desk(text, house)
 }
 
 fn add_way(text: &mut String, house: House, way: &[u8]) -> Result<(), AllocError>
     ensures { OnOk result (string_bytes text.new ≡ string_bytes text.old ++ way_of (house_of house) way.now) }
 {
-    text.push_str(
-        "<g fill='none' stroke='#1d4ed8' stroke-width='3' stroke-linejoin='round' marker-end='url(#tip)'>\n",
+    writeln!(
+        text,
+        "<g fill='none' stroke='#1d4ed8' stroke-width='3' stroke-linejoin='round' marker-end='url(#tip)'>"
     )?;
     add_strokes(text, house, way)?;
-    text.push_str("</g>\n</svg>\n")?;
-    Ok(())
+    writeln!(text, "</g>\n</svg>")
 }

@@ -3,7 +3,8 @@
 
 use house::{House, Refusal, Spot, list_of};
 use picture::picture;
-use planner::plan;
+use planner::{CELLS, Lent, PICKS, STEPS, USES, plan};
+use std::alloc::{AllocError, Global};
 use std::io::{Read, Write};
 use std::process::ExitCode;
 use std::{env, fs, io};
@@ -15,6 +16,7 @@ plan --steps [FILE]    write its steps instead, as check reads them
 plan --svg [FILE]      write a picture of it instead, in SVG
 plan --help            print this";
 
+// Kept: `checker` has this too; what comes from outside has no contract, which a library's function needs (d).
 fn input(rt: &HostRuntime, source: Source) -> io::Result<Vec<u8>> {
     match source {
         Source::File(path) => fs::read(rt, path),
@@ -34,97 +36,93 @@ struct Tour {
 }
 
 // The tour, or why the file is refused.
-fn tour_of(rt: &HostRuntime, file: &[u8]) -> anyhow::Result<Result<Tour, Refusal>> {
-    let house = match house::read(file) {
-        Ok(house) => house,
-        Err(refusal) => return Ok(Err(refusal)),
+fn tour_of(heap: Global, file: &[u8]) -> Result<Result<Tour, Refusal>, AllocError> {
+    let mut picks = vec![in heap; Spot { aisle: 0, depth: 0 }; PICKS]?;
+    let mut lengths = vec![in heap; 0u32; CELLS]?;
+    let mut came = vec![in heap; 0u8; CELLS]?;
+    let mut steps = vec![in heap; 0u8; STEPS]?;
+    let mut uses = vec![in heap; 0u8; USES]?;
+    let mut memory = Lent {
+        picks: &mut picks,
+        lengths: &mut lengths,
+        came: &mut came,
+        steps: &mut steps,
+        uses: &mut uses,
     };
-    let heap = rt.alloc();
-    let mut picks = vec![in heap; Spot { aisle: 0, depth: 0 }; 512]?;
-    let mut lengths = vec![in heap; 0u32; 448]?;
-    let mut came = vec![in heap; 0u8; 448]?;
-    let mut steps = vec![in heap; 0u8; 25852]?;
-    let mut uses = vec![in heap; 0u8; 12926]?;
-    match plan(
-        file,
-        &mut picks,
-        &mut lengths,
-        &mut came,
-        &mut steps,
-        &mut uses,
-    ) {
-        Ok(walked) => {
-            steps.truncate(walked.steps);
-            Ok(Ok(Tour { house, steps }))
-        }
-        Err(refusal) => Ok(Err(refusal)),
-    }
+    let planned = planned(file, &mut memory);
+    Ok(planned.map(|(house, count)| {
+        steps.truncate(count);
+        Tour { house, steps }
+    }))
 }
 
-// Whether there was a tour to print.
-fn print_lines(rt: &HostRuntime, file: &[u8]) -> anyhow::Result<bool> {
-    match tour_of(rt, file)? {
+// The house of a file, and how many steps of a shortest tour the memory has then.
+fn planned(file: &[u8], memory: &mut Lent<'_>) -> Result<(House, usize), Refusal> {
+    let house = house::read(file)?.house;
+    let walked = plan(file, memory)?;
+    Ok((house, walked.steps))
+}
+
+// Writes what is made of the tour, or tells why there is none; whether there was one.
+fn show<M, R>(rt: &HostRuntime, file: &[u8], make: M, refuse: R) -> anyhow::Result<bool>
+where
+    M: FnOnce(&Tour) -> Result<Vec<u8>, AllocError>,
+    R: FnOnce(Refusal) -> io::Result<()>,
+    requires makes { M.IsAlwaysCallable make }
+    requires refuses { R.IsAlwaysCallable refuse }
+{
+    match tour_of(rt.alloc(), file)? {
         Ok(tour) => {
-            let text = way_text(rt.alloc(), tour.house, &tour.steps)?;
-            rt.stdout().write_all(text.as_bytes())?;
+            rt.stdout().write_all(&make(&tour)?)?;
             Ok(true)
         }
         Err(refusal) => {
-            println!(rt; "{refusal}")?;
+            refuse(refusal)?;
             Ok(false)
         }
     }
 }
 
 // Where the output is a file of its own sort, a refusal goes to standard error.
-fn write_steps(rt: &HostRuntime, file: &[u8]) -> anyhow::Result<bool> {
-    match tour_of(rt, file)? {
-        Ok(tour) => {
-            let bytes = claim(rt.alloc(), file, &tour.steps)?;
-            rt.stdout().write_all(&bytes)?;
-            Ok(true)
-        }
-        Err(refusal) => {
-            eprintln!(rt; "{refusal}")?;
-            Ok(false)
-        }
-    }
-}
-
-fn draw(rt: &HostRuntime, file: &[u8]) -> anyhow::Result<bool> {
-    match tour_of(rt, file)? {
-        Ok(tour) => {
-            let svg = picture(rt.alloc(), tour.house, list_of(file), &tour.steps)?;
-            rt.stdout().write_all(svg.as_bytes())?;
-            Ok(true)
-        }
-        Err(refusal) => {
-            eprintln!(rt; "{refusal}")?;
-            Ok(false)
-        }
-    }
-}
-
 fn run(rt: &HostRuntime, command: PlanCommand) -> anyhow::Result<bool> {
+    let heap = rt.alloc();
     match command {
         PlanCommand::Help => {
             println!(rt; "{HELP}")?;
             Ok(true)
         }
-        PlanCommand::Lines(source) => print_lines(rt, &input(rt, source)?),
-        PlanCommand::Steps(source) => write_steps(rt, &input(rt, source)?),
-        PlanCommand::Svg(source) => draw(rt, &input(rt, source)?),
+        PlanCommand::Lines(source) => show(
+            rt,
+            &input(rt, source)?,
+            |tour| Ok(way_text(heap, tour.house, &tour.steps)?.into_bytes()),
+            |refusal| println!(rt; "{refusal}"),
+        ),
+        PlanCommand::Steps(source) => {
+            let file = input(rt, source)?;
+            show(
+                rt,
+                &file,
+                |tour| claim(heap, &file, &tour.steps),
+                |refusal| eprintln!(rt; "{refusal}"),
+            )
+        }
+        PlanCommand::Svg(source) => {
+            let file = input(rt, source)?;
+            show(
+                rt,
+                &file,
+                |tour| Ok(picture(heap, tour.house, list_of(&file), &tour.steps)?.into_bytes()),
+                |refusal| eprintln!(rt; "{refusal}"),
+            )
+        }
     }
 }
 
 // What goes wrong is told here, and the status is all that is left of it.
 fn main(rt: HostRuntime) -> io::Result<ExitCode> {
-    let mut args = env::args(&rt)?;
-    let _program = args.next();
-    let first = args.next();
-    let second = args.next();
-    let third = args.next();
-    let command = match plan_command(first.as_deref(), second.as_deref(), third.as_deref()) {
+    let args: Vec<String> = env::args(&rt)?.skip(1).collect(rt.alloc())?;
+    let args: Vec<&str> = args.iter().map(|arg| arg.as_str()).collect(rt.alloc())?;
+    let command = match plan_command(&args) {
         Ok(command) => command,
         Err(misuse) => {
             eprintln!(rt; "plan: {misuse}")?;

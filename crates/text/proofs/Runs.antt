@@ -1,6 +1,6 @@
 -- The first piece of a row is its longest run of one step, and the other pieces are those of what follows it; so the row is as long as both together.
 -- Assumes nothing.
-use Rattle.std.proofs.Common.{◌≡◌, ℕ, zero, suc, ◌+◌, ◌*◌, ◌<◌, ◌≤◌, Bool, true, false, cond, eqb, ltb, List, [], ◌∷◌, length, get_or, drop, Some, None, sym, refl, ap, ◌∙◌, subst, inl, inr, suc-mul, arith}
+use Rattle.std.proofs.Common.{◌≡◌, ℕ, suc, ◌+◌, ◌*◌, ◌<◌, ◌≤◌, Bool, true, false, cond, eqb, ltb, List, [], ◌∷◌, length, get_or, drop, Some, None, sym, refl, ap, ◌∙◌, subst, inl, inr, suc-mul, arith}
 use Rattle.std.specs.List.{prefix_len}
 use Rattle.std.proofs.lemmas.List.Sums.{prefix_len-le-length}
 use Rattle.std.proofs.lemmas.Bool.{cases_eq, cases_lt, cond-true, cond-false, lt-ltb, le-ltb, eq-eqb, ne_eqb}
@@ -13,7 +13,7 @@ use Rattle.text.proofs.Ahead.{piece_made, ahead_longer, ahead_turn, pieces_step,
 
 -- a run goes on with the same byte, and ends before any other
 module _ (b c : ℕ) (cs : List ℕ) where
-  run_on : b ≡ c → prefix_len (eqb b) (c ∷ cs) ≡ suc (prefix_len (eqb b) cs)
+  pub run_on : b ≡ c → prefix_len (eqb b) (c ∷ cs) ≡ suc (prefix_len (eqb b) cs)
   run_on e = let s : 1 + prefix_len (eqb b) cs ≡ suc (prefix_len (eqb b) cs) = omega arith in cond-true _ _ _ (eq-eqb b c e) ∙ s
 
   run_ends : (b ≡ c → ⊥) → prefix_len (eqb b) (c ∷ cs) ≡ 0
@@ -41,7 +41,7 @@ pieces_run b (c ∷ cs) k =
             | inl l ↦
                 let q = piece_of c (suc (prefix_len (eqb c) cs)) in
                 let r = pieces_run c cs l in
-                ap (ahead b) r ∙ ahead_turn b q _ (λ f. e (f ∙ (piece_made c _ l).sort_is)) ∙ ap (λ (ps : List Piece). piece_of b 1 ∷ ps) (sym r)
+                ap (ahead b) r ∙ ahead_turn b q _ (λ f. e (f ∙ (piece_made c (suc (prefix_len (eqb c) cs)) l).sort_is)) ∙ ap (λ (ps : List Piece). piece_of b 1 ∷ ps) (sym r)
             | inr l ↦ let r = pieces_stray c cs l in ap (ahead b) r ∙ ap (λ (ps : List Piece). piece_of b 1 ∷ ps) (sym r)
           ]
           ∙ ap (gathered b (c ∷ cs)) (sym (run_ends b c cs e))
@@ -52,23 +52,14 @@ unfolding pieces
 first_of_none [] e = refl
 first_of_none (b ∷ bs) e = absurd (omega arith)
 
--- the longest front of one byte, known by its places
-run_is : (b : ℕ) (row : List ℕ) (n : ℕ) → n ≤ length row → ((k : ℕ) → k < n → get_or row k 0 ≡ b) → (n < length row → get_or row n 0 ≡ b → ⊥) → n ≡ prefix_len (eqb b) row
-run_is b [] n within same stops = omega arith
-run_is b (c ∷ cs) zero within same stops = sym (run_ends b c cs (λ e. stops (omega arith) (sym e)))
-run_is b (c ∷ cs) (suc n) within same stops =
-    ap suc (run_is b cs n (omega arith) (λ k l. same (suc k) (omega arith)) (λ l. stops (omega arith))) ∙ sym (run_on b c cs (sym (same 0 (omega arith))))
-
 -- the run from the first byte on is the first piece
-pub first_of_run :
-    (row : List ℕ) (n : ℕ) → 0 < length row → n ≤ length row → ((k : ℕ) → k < n → get_or row k 0 ≡ get_or row 0 0) → (n < length row → get_or row n 0 ≡ get_or row 0 0 → ⊥) →
-    piece_at (get_or row 0 0) n ≡ first_of (pieces row)
-first_of_run [] n k within same stops = absurd (omega arith)
-first_of_run (b ∷ bs) n k within same stops =
-    elim (cases_lt b 6) [
-      | inl l ↦
-          cond-true _ _ _ (lt-ltb b 6 l) ∙ ap (λ (m : ℕ). Some (piece_of b m)) (run_is b (b ∷ bs) n within same stops ∙ run_on b b bs refl) ∙ ap first_of (sym (pieces_run b bs l))
-      | inr l ↦ cond-false _ _ _ (le-ltb b 6 l) ∙ ap first_of (sym (pieces_stray b bs l))
+pub first_of_run : (row : List ℕ) (b n : ℕ) → 0 < length row → b ≡ get_or row 0 0 → n ≡ prefix_len (eqb b) row → piece_at b n ≡ first_of (pieces row)
+first_of_run [] b n k e run = absurd (omega arith)
+first_of_run (c ∷ cs) b n k e run =
+    (λ i. piece_at (e i) ((run ∙ ap (λ (x : ℕ). prefix_len (eqb x) (c ∷ cs)) e) i))
+    ∙ elim (cases_lt c 6) [
+      | inl l ↦ cond-true _ _ _ (lt-ltb c 6 l) ∙ ap (λ (m : ℕ). Some (piece_of c m)) (run_on c c cs refl) ∙ ap first_of (sym (pieces_run c cs l))
+      | inr l ↦ cond-false _ _ _ (le-ltb c 6 l) ∙ ap first_of (sym (pieces_stray c cs l))
     ]
 
 -- a row is as long as the bytes of its run together, and what follows them
@@ -106,7 +97,6 @@ measure_few h few (b ∷ bs) = omega (arith, worth_few h b few, measure_few h fe
 
 -- the first piece of a row, and what is left of it
 pub record Front (row : List ℕ) (p : Piece) : Type 0 where
-  pub some : 0 < count_of p
   pub within : count_of p ≤ length row
   pub rest : pieces row ≡ p ∷ pieces (drop (count_of p) row)
   pub long : (h : House) → measure h row ≡ count_of p * worth h (sort_of p) + measure h (drop (count_of p) row)
@@ -123,7 +113,6 @@ front_piece (b ∷ bs) p e =
           let q : piece_of b (suc n) ≡ p = cc in
           subst (Front (b ∷ bs)) q
           (record {
-            some = omega (arith, m.count_is);
             within = omega (arith, m.count_is, prefix_len-le-length (eqb b) bs);
             rest = r ∙ ap (λ (x : ℕ). piece_of b (suc n) ∷ pieces (drop x (b ∷ bs))) (sym m.count_is);
             long =

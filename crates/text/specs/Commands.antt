@@ -1,5 +1,5 @@
 -- What the arguments of a program ask for. Assumes nothing: these are definitions.
-use Rattle.std.specs.Prelude.{ℕ, Bool, cond, List, [], ◌++◌, Some, None, Ok, Err, codes, Option, Result, ◌==◌, slice_index}
+use Rattle.std.specs.Prelude.{ℕ, Bool, cond, List, ◌++◌, Some, None, Ok, Err, codes, Option, Result, ◌==◌, slice_index}
 use Rattle.std.specs.Borrow.{Bor}
 use Rattle.std.specs.Str.{bytes_eq}
 use Rattle.text.specs.declared.command.Source.{Source}
@@ -47,15 +47,6 @@ plan_command_of (Some name) second third =
 abbrev pub check_command_of : Arg → Arg → Result CheckCommand Misuse
 check_command_of None second = Ok (Check Standard)
 check_command_of (Some name) second = cond (bytes_eq name.now (codes "--help")) (alone second check.Help) (asked Check (source_of (Some name) second))
-
--- the words for a misuse, and the option that is unknown
-abbrev pub misuse_words : Misuse → List ℕ
-misuse_words (Unknown name) = codes "unknown option "
-misuse_words TooMany = codes "too many arguments"
-
-abbrev pub misuse_name : Misuse → List ℕ
-misuse_name (Unknown name) = name.now
-misuse_name TooMany = []
 
 -- the line that tells of a misuse
 abbrev pub misuse_line : Misuse → List ℕ

@@ -22,8 +22,7 @@ pub fn claim(heap: Global, file: &[u8], way: &[u8]) -> Result<Vec<u8>, AllocErro
 fn house_of(file: &[u8]) -> &[u8]
     ensures { result.now ≡ take 3 file.now }
 {
-    let end = file.len().min(3);
-    &file[0..end]
+    file.get(..3).unwrap_or(file)
 }
 
 fn pick_count(list: &[u8]) -> usize
@@ -32,8 +31,10 @@ fn pick_count(list: &[u8]) -> usize
     list.len() / 2
 }
 
+// The lower two bytes of a number.
 fn two_bytes(n: usize) -> [u8; 2]
     ensures { result ≡ two_bytes n }
 {
-    [(n % 256) as u8, (n / 256 % 256) as u8]
+    let [low, high, ..] = n.to_le_bytes();
+    [low, high]
 }

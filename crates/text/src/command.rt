@@ -1,17 +1,16 @@
 // What the arguments of a program ask for.
-ghost use Rattle.std.specs.Prelude.{◌≡◌, slice_index};
-ghost use Rattle.std.specs.Str.{bytes_eq};
-ghost use Rattle.text.specs.Commands.{dashed, source_of, plan_command_of, check_command_of};
+ghost use Rattle.std.specs.Prelude.{◌≡◌, slice_get};
+ghost use Rattle.text.specs.Commands.{dashed, alone, source_of, plan_command_of, check_command_of};
 
 // Where a program reads from.
-#[derive(Clone, Copy)]
+#[derive(Clone, Copy, Debug, PartialEq, Eq)]
 pub enum Source<'a> {
     Standard,
     File(&'a str),
 }
 
 // What `plan` is asked for: the lines of a way, its steps as `check` reads them, or a picture of it.
-#[derive(Clone, Copy)]
+#[derive(Clone, Copy, Debug, PartialEq, Eq)]
 pub enum PlanCommand<'a> {
     Lines(Source<'a>),
     Steps(Source<'a>),
@@ -19,76 +18,65 @@ pub enum PlanCommand<'a> {
     Help,
 }
 
-#[derive(Clone, Copy)]
+#[derive(Clone, Copy, Debug, PartialEq, Eq)]
 pub enum CheckCommand<'a> {
     Check(Source<'a>),
     Help,
 }
 
 // Arguments that a program is not made for.
-#[derive(Clone, Copy)]
+#[derive(Clone, Copy, Debug, PartialEq, Eq)]
 pub enum Misuse<'a> {
     Unknown(&'a str),
     TooMany,
 }
 
-// The first three arguments of `plan`.
-pub fn plan_command<'a>(
-    first: Option<&'a str>,
-    second: Option<&'a str>,
-    third: Option<&'a str>,
-) -> Result<PlanCommand<'a>, Misuse<'a>>
-    ensures { result ≡ plan_command_of first.entry second.entry third.entry }
+// By the arguments of `plan`.
+pub fn plan_command<'a>(args: &[&'a str]) -> Result<PlanCommand<'a>, Misuse<'a>>
+    ensures { result ≡ plan_command_of (slice_get args.entry.now 0) (slice_get args.entry.now 1) (slice_get args.entry.now 2) }
 {
-    let Some(name) = first else {
+    let [name, rest @ ..] = args else {
         return Ok(PlanCommand::Lines(Source::Standard));
     };
-    if same(name, "--help") {
-        return match second {
-            Some(_) => Err(Misuse::TooMany),
-            None => Ok(PlanCommand::Help),
-        };
+    match *name {
+        "--help" => alone(rest, PlanCommand::Help),
+        "--steps" => read_from(rest).map(PlanCommand::Steps),
+        "--svg" => read_from(rest).map(PlanCommand::Svg),
+        _ => read_from(args).map(PlanCommand::Lines),
     }
-    if same(name, "--steps") {
-        return Ok(PlanCommand::Steps(read_from(second, third)?));
-    }
-    if same(name, "--svg") {
-        return Ok(PlanCommand::Svg(read_from(second, third)?));
-    }
-    Ok(PlanCommand::Lines(read_from(first, second)?))
 }
 
-// The first two arguments of `check`.
-pub fn check_command<'a>(
-    first: Option<&'a str>,
-    second: Option<&'a str>,
-) -> Result<CheckCommand<'a>, Misuse<'a>>
-    ensures { result ≡ check_command_of first.entry second.entry }
+// By the arguments of `check`.
+pub fn check_command<'a>(args: &[&'a str]) -> Result<CheckCommand<'a>, Misuse<'a>>
+    ensures { result ≡ check_command_of (slice_get args.entry.now 0) (slice_get args.entry.now 1) }
 {
-    let Some(name) = first else {
+    let [name, rest @ ..] = args else {
         return Ok(CheckCommand::Check(Source::Standard));
     };
-    if same(name, "--help") {
-        return match second {
-            Some(_) => Err(Misuse::TooMany),
-            None => Ok(CheckCommand::Help),
-        };
+    match *name {
+        "--help" => alone(rest, CheckCommand::Help),
+        _ => read_from(args).map(CheckCommand::Check),
     }
-    Ok(CheckCommand::Check(read_from(first, second)?))
 }
 
-fn read_from<'a>(first: Option<&'a str>, second: Option<&'a str>) -> Result<Source<'a>, Misuse<'a>>
-    ensures { result ≡ source_of first.entry second.entry }
+fn read_from<'a>(args: &[&'a str]) -> Result<Source<'a>, Misuse<'a>>
+    ensures { result ≡ source_of (slice_get args.entry.now 0) (slice_get args.entry.now 1) }
 {
-    let Some(name) = first else {
-        return Ok(Source::Standard);
-    };
-    if is_option(name) {
-        return Err(Misuse::Unknown(name));
+    match args {
+        [] => Ok(Source::Standard),
+        [name, ..] if is_option(name) => Err(Misuse::Unknown(name)),
+        [name, more @ ..] => alone(more, Source::File(name)),
     }
-    match second {
-        Some(_) => Err(Misuse::TooMany),
-        None => Ok(Source::File(name)),
+}
+
+// What is asked for, if there are no more arguments.
+fn alone<'a, T: Drop>(more: &[&'a str], asked: T) -> Result<T, Misuse<'a>>
+    ensures { result ≡ alone (slice_get more.entry.now 0) asked }
+{
+    if more.is_empty() {
+        Ok(asked)
+    } else {
+        Err(Misuse::TooMany)
     }
 }
 
@@ -96,19 +84,5 @@ fn read_from<'a>(first: Option<&'a str>, second: Option<&'a str>) -> Result<Sour
 fn is_option(name: &str) -> bool
     ensures { result ≡ dashed name.now }
 {
-    first_byte(name) == b'-'
-}
-
-// 0 where the name is empty.
-fn first_byte(name: &str) -> u8
-    ensures { result ≡ slice_index name.now 0 }
-{
-    let bytes = name.as_bytes();
-    if bytes.is_empty() { 0 } else { bytes[0] }
-}
-
-fn same(name: &str, option: &str) -> bool
-    ensures { result ≡ bytes_eq name.now option.now }
-{
-    name == option
+    name.starts_with('-')
 }

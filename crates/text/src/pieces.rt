@@ -1,72 +1,68 @@
-// The first piece of a way.
-ghost use Rattle.std.specs.Prelude.{◌≡◌, ℕ, ◌<◌, ◌≤◌, true, length, None, MatchOption, ◌≢◌, slice_index};
-ghost use Rattle.text.specs.Piece.{piece_at};
-ghost use Rattle.text.specs.Pieces.{pieces, first_of};
+// The pieces of a way, one after the other.
+ghost use Rattle.std.specs.Prelude.{◌≡◌, ◌==◌};
+ghost use Rattle.std.specs.Iterator.{item_count};
+ghost use Rattle.std.specs.List.{prefix_len};
+ghost use Rattle.text.specs.Pieces.{pieces, first_of, TakesPiece};
 
 use crate::piece::Piece;
 
-// The longest front of a way that has one byte only.
-#[derive(Clone, Copy)]
-struct Stretch {
-    byte: u8,
-    steps: usize,
+// The pieces of what is left of a way, up to the first byte that is no step.
+#[derive(Drop)]
+pub(crate) struct Pieces<'a> {
+    rest: &'a [u8],
+}
+
+impl<'a> Pieces<'a> {
+    pub(crate) fn of(way: &'a [u8]) -> Pieces<'a>
+        ensures { result.rest.now ≡ way.entry.now }
+    {
+        Pieces { rest: way }
+    }
+
+    // What the pieces that are taken have left of the way.
+    pub(crate) fn rest(&self) -> &'a [u8]
+        ensures { result.now ≡ self.now.rest.now }
+    {
+        self.rest
+    }
+}
+
+impl Iterator for Pieces<'_> {
+    type Item = Piece;
+
+    ghost next_gives = { TakesPiece };
+
+    ghost remaining = { item_count (λ s. pieces s.rest.now) };
+
+    fn next(&mut self) -> Option<Piece> {
+        let piece = first_piece(self.rest)?;
+        let (_, rest) = self.rest.split_at(piece.steps);
+        self.rest = rest;
+        Some(piece)
+    }
 }
 
 // None where the way is over, or goes on with a byte that is no step.
 pub fn first_piece(way: &[u8]) -> Option<Piece>
     ensures { result ≡ first_of (pieces way.now) }
 {
-    match first_run(way) {
-        Some(run) => Piece::of(run.byte, run.steps),
-        None => None,
-    }
+    let byte = *way.first()?;
+    Piece::of(byte, run(way, byte))
 }
 
-fn first_run(way: &[u8]) -> Option<Stretch>
-    ensures { MatchOption result (None ≡ first_of (pieces way.now)) (λ run. piece_at run.byte run.steps ≡ first_of (pieces way.now)) }
-{
-    if way.is_empty() {
-        return None;
-    }
-    let byte = way[0];
-    Some(Stretch {
-        byte,
-        steps: run(way, byte),
-    })
-}
-
-// How many bytes at the front of a way are this one.
+// How many bytes at the front of a way are this one; whole blocks come first, which are compared without a branch for each byte.
 fn run(way: &[u8], byte: u8) -> usize
-    ensures within { result ≤ length way.now }
-    ensures same { (k : ℕ) → k < result → slice_index way.now k ≡ byte }
-    ensures stops { result < length way.now → slice_index way.now result ≢ byte }
+    ensures { result ≡ prefix_len (λ x. byte == x) way.now }
 {
-    for i in whole_blocks(way, byte)..way.len() {
-        if way[i] != byte {
-            return i;
-        }
-    }
-    way.len()
+    let (blocks, _) = way.as_chunks::<16>();
+    let whole = 16 * alike(blocks, &[byte; 16]);
+    let (_, rest) = way.split_at(whole);
+    whole + alike(rest, &byte)
 }
 
-// So many bytes at the front of a way at least are this one, told by blocks, which are compared without a branch for each byte.
-fn whole_blocks(way: &[u8], byte: u8) -> usize
-    ensures within { result ≤ length way.now }
-    ensures same { (k : ℕ) → k < result → slice_index way.now k ≡ byte }
+// How many items at the front are as this one.
+fn alike<T: PartialEq>(items: &[T], item: &T) -> usize
+    ensures { result ≡ prefix_len (T.eq item.now) items.now }
 {
-    let mut from = 0;
-    while way.len() - from >= 16 && alike(&way[from..from + 16], byte) {
-        from += 16;
-    }
-    from
-}
-
-fn alike(block: &[u8], byte: u8) -> bool
-    ensures { result ≡ true → (k : ℕ) → k < length block.now → slice_index block.now k ≡ byte }
-{
-    let mut same = true;
-    for other in block {
-        same &= *other == byte;
-    }
-    same
+    items.iter().take_while(|other| item == *other).count()
 }

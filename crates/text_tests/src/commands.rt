@@ -85,16 +85,18 @@ const CHECK: [Row; 9] = [
 #[test]
 fn commands(rt: HostRuntime) {
     for Row(args, want, name) in &PLAN {
-        let command = plan_command(
-            args.get(0).copied(),
-            args.get(1).copied(),
-            args.get(2).copied(),
+        assert_eq!(rt;
+            plan_asked(plan_command(args)),
+            (*want, *name),
+            "plan {args:?}"
         );
-        assert_eq!(rt; plan_asked(command), (*want, *name), "plan {args:?}");
     }
     for Row(args, want, name) in &CHECK {
-        let command = check_command(args.get(0).copied(), args.get(1).copied());
-        assert_eq!(rt; check_asked(command), (*want, *name), "check {args:?}");
+        assert_eq!(rt;
+            check_asked(check_command(args)),
+            (*want, *name),
+            "check {args:?}"
+        );
     }
 }
 

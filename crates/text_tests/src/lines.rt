@@ -104,7 +104,7 @@ fn check_run(
     let want = format!(in rt.alloc(); "{words} {steps}\nlength {length}\n")?;
     assert_eq!(rt; told.as_str(), want.as_str());
     let piece = first_piece(way.as_slice()).ok_or("no piece")?;
-    assert_eq!(rt; piece.steps(), steps);
+    assert_eq!(rt; piece.steps, steps);
     let shown = format!(in rt.alloc(); "{piece}")?;
     let line = format!(in rt.alloc(); "{words} {steps}")?;
     assert_eq!(rt; shown.as_str(), line.as_str());

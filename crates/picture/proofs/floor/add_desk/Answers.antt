@@ -1,4 +1,4 @@
 use Rattle.picture.proofs.floor.add_desk.Goals as goal
 
-pub returns-in-Ok : goal.returns-in-Ok
-returns-in-Ok c = let wrote = c.in-Ok.ensures in cc
+pub returns : goal.returns
+returns c = rw (c.down.ensures) at c.writeln.ensures.bytes

@@ -1,4 +1,4 @@
 use Rattle.picture.proofs.floor.add_ways.Goals as goal
 
-pub returns-in-Ok : goal.returns-in-Ok
-returns-in-Ok c = let wrote = c.in-Ok.ensures in cc
+pub returns : goal.returns
+returns c = rw (c.across-right.ensures, c.down-back.ensures) at c.writeln.ensures.bytes

@@ -7,5 +7,5 @@ use Rattle.picture.proofs.strokes.add_strokes.Given as goal
 -- the lines so far, and those of the way that is left
 abbrev pub invariant-loop-byte : goal.invariant-loop-byte
 invariant-loop-byte l =
-    string_bytes l.text ++ strokes (house_of l.house) (spot_of l.at) (last_of l.last) (drop l.byte-index l.way)
+    string_bytes l.text ++ strokes (house_of l.house) (spot_of l.pen.at) (last_of l.pen.last) (drop l.byte-index l.way)
     ≡ string_bytes l.initial.text ++ strokes (house_of l.house) desk None l.way
