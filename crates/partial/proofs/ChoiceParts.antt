@@ -1,5 +1,5 @@
 -- A choice is told by its number, and a class by its place. Assumes nothing.
-use Rattle.std.proofs.Common.{◌≡◌, ℕ, ◌+◌, ◌*◌, ◌/◌, ◌%◌, ◌≤◌, sym, refl, ap, ◌∙◌, arith}
+use Rattle.std.proofs.Common.{◌≡◌, ℕ, ◌+◌, ◌*◌, ◌/◌, ◌%◌, ◌≤◌, zero, suc, sym, refl, ap, ◌∙◌, arith}
 use Rattle.aisle.specs.Costs.{Effect, nothing, from_front, from_back, both_ends, through_once, through_twice}
 use Rattle.classes.specs.Classes.{
   Class,
@@ -17,6 +17,10 @@ use Rattle.classes.specs.Classes.{
   two_back,
   two_each,
 }
+use Rattle.aisle.specs.Values.{effect_of}
+use Rattle.classes.specs.Values.{class_of, passage_of}
+use Rattle.partial.specs.Choice.{number_of, StandsFor}
+use Rattle.partial.specs.declared.choice.Choice.{Choice}
 use Rattle.partial.specs.Table.{class_place, passage_place, effect_place, choice_number}
 use Rattle.partial.specs.Tracing.{class_by, passage_by, effect_by, choice_class, choice_passage, choice_effect}
 
@@ -92,3 +96,42 @@ module _ (c : Class) (p : Passage) (e : Effect) where
 
   pub effect_of_number : choice_effect (choice_number c p e) ≡ e
   effect_of_number = ap effect_by (third_digit (class_place c) (passage_place p) (effect_place e) (effect_place_small e)) ∙ effect_by_place e
+
+-- and back: a place by what stands at it
+place_of_class : (n : ℕ) → n ≤ 6 → class_place (class_by n) ≡ n
+place_of_class zero l = refl
+place_of_class (suc zero) l = refl
+place_of_class (suc (suc zero)) l = refl
+place_of_class (suc (suc (suc zero))) l = refl
+place_of_class (suc (suc (suc (suc zero)))) l = refl
+place_of_class (suc (suc (suc (suc (suc zero))))) l = refl
+place_of_class (suc (suc (suc (suc (suc (suc zero)))))) l = refl
+place_of_class (suc (suc (suc (suc (suc (suc (suc n))))))) l = absurd (omega arith)
+
+place_of_passage : (n : ℕ) → n ≤ 4 → passage_place (passage_by n) ≡ n
+place_of_passage zero l = refl
+place_of_passage (suc zero) l = refl
+place_of_passage (suc (suc zero)) l = refl
+place_of_passage (suc (suc (suc zero))) l = refl
+place_of_passage (suc (suc (suc (suc zero)))) l = refl
+place_of_passage (suc (suc (suc (suc (suc n))))) l = absurd (omega arith)
+
+place_of_effect : (n : ℕ) → n ≤ 5 → effect_place (effect_by n) ≡ n
+place_of_effect zero l = refl
+place_of_effect (suc zero) l = refl
+place_of_effect (suc (suc zero)) l = refl
+place_of_effect (suc (suc (suc zero))) l = refl
+place_of_effect (suc (suc (suc (suc zero)))) l = refl
+place_of_effect (suc (suc (suc (suc (suc zero))))) l = refl
+place_of_effect (suc (suc (suc (suc (suc (suc n)))))) l = absurd (omega arith)
+
+pub number_small : (c : Class) (p : Passage) (e : Effect) → choice_number c p e ≤ 209
+number_small c p e = omega (arith, class_place_small c, passage_place_small p, effect_place_small e)
+
+-- the choice that a number stands for has that number
+pub number_stands : (n : ℕ) (c : Choice) → n ≤ 209 → StandsFor n c → number_of c ≡ n
+number_stands n c l s =
+    let x : class_place (class_of c.class) ≡ n / 30 = ap class_place s.class ∙ place_of_class (n / 30) (omega arith) in
+    let y : passage_place (passage_of c.passage) ≡ n / 6 % 5 = ap passage_place s.passage ∙ place_of_passage (n / 6 % 5) (omega arith) in
+    let z : effect_place (effect_of c.effect) ≡ n % 6 = ap effect_place s.effect ∙ place_of_effect (n % 6) (omega arith) in
+    omega arith

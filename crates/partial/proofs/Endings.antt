@@ -1,8 +1,17 @@
 -- The class that is taken for the end is one of whole tours, and no other such class is shorter. Assumes nothing.
-use Rattle.std.proofs.Common.{◌≡◌, ℕ, ◌≤◌, true, List, refl, ap, ◌∙◌, arith, le-ltb, lt-ltb}
+use Rattle.std.proofs.Common.{◌≡◌, ℕ, ◌+◌, ◌<◌, ◌≤◌, true, List, [], ◌∷◌, length, get_or, take, fold, sym, refl, ap, ◌∙◌, arith, le-ltb, lt-ltb}
+use Rattle.std.proofs.lemmas.List.{take_all}
+use Rattle.std.proofs.lemmas.List.Sums.{fold_more}
 use native.Mathlib.Decide.{dec_lt}
 use Rattle.classes.specs.Classes.{Class, odd_odd, even_back, even_front, even_one, even_two, nothing_yet, closed, closes}
+use Rattle.classes.specs.Values.{class_of}
+use Rattle.classes.specs.declared.class.Class as code
+use Rattle.classes.specs.declared.class.Class.TheVariants.{EvenFront, EvenOne, EvenBack, NothingYet}
 use Rattle.partial.specs.Ending.{length_at, shorter, ending, Ends}
+
+-- the classes that are whole tours, but for the closed one
+abbrev pub whole_tours : List code.Class
+whole_tours = EvenFront ∷ EvenOne ∷ EvenBack ∷ NothingYet ∷ []
 
 module _ (lengths : List ℕ) (a : ℕ) where
   -- the shorter of two classes: of whole tours if both are, and no longer than either
@@ -35,10 +44,17 @@ module _ (lengths : List ℕ) (a : ℕ) where
   unfolding ending
   ending_ends = chain _ _ _ _ (taken _ _) (taken _ _) (taken _ _) (taken _ _)
 
-  -- the four comparisons, one after the other
-  pub ending_by :
-      (c₁ c₂ c₃ c₄ : Class) → c₁ ≡ shorter lengths a closed even_front → c₂ ≡ shorter lengths a c₁ even_one → c₃ ≡ shorter lengths a c₂ even_back →
-      c₄ ≡ shorter lengths a c₃ nothing_yet → c₄ ≡ ending lengths a
+  -- the shortest of a closed tour and the first k of the others
+  abbrev pub shortest : ℕ → Class
+  shortest k = fold (λ c d. shorter lengths a c (class_of d)) closed (take k whole_tours)
+
+  pub shortest_more :
+      (k : ℕ) (d : code.Class) (c r : Class) → k < length whole_tours → c ≡ shortest k → r ≡ shorter lengths a c (class_of (get_or whole_tours k d)) → r ≡ shortest (k + 1)
+  shortest_more k d c r l so_far taken =
+      taken ∙ ap (λ (x : Class). shorter lengths a x (class_of (get_or whole_tours k d))) so_far
+      ∙ sym (fold_more (λ x y. shorter lengths a x (class_of y)) closed whole_tours k d l)
+
+  pub shortest_of_all : (k : ℕ) (c : Class) → length whole_tours ≤ k → c ≡ shortest k → c ≡ ending lengths a
   unfolding ending
-  ending_by c₁ c₂ c₃ c₄ e₁ e₂ e₃ e₄ =
-      e₄ ∙ ap (λ (c : Class). shorter lengths a c nothing_yet) (e₃ ∙ ap (λ (c : Class). shorter lengths a c even_back) (e₂ ∙ ap (λ (c : Class). shorter lengths a c even_one) e₁))
+  shortest_of_all k c l so_far =
+      so_far ∙ ap (λ (ds : List code.Class). fold (λ x y. shorter lengths a x (class_of y)) closed ds) (take_all k whole_tours l)

@@ -1,9 +1,14 @@
+pub mod Changes
 pub mod ChoiceParts
 pub mod ClearedRow
 pub mod Endings
+pub mod Lifted
 pub mod Moves
+pub mod Numbered
 pub mod Offers
 pub mod Parted
 pub mod RowOffers
 pub mod RowsMade
 pub mod Traced
+pub mod Values
+pub mod Within

@@ -30,15 +30,15 @@ pub record RowMade (a : ℕ) (Way : Class → ℕ → ℕ → Type 0) (was is : 
   pub so_far : SoFar a Way was is
   pub least : (d : Class) (w k : ℕ) → Way d w k → entry is.lengths a d ≤ w
 
-module _ (prices : Effect → ℕ) (was : Tables) (room : HasRow 0 was) where
-  every_effect_opens : (e : Effect) → (c : Class) × (opening e ≡ Some c)
-  every_effect_opens nothing = (even_front, refl)
-  every_effect_opens from_front = (even_front, refl)
-  every_effect_opens from_back = (even_two, refl)
-  every_effect_opens both_ends = (even_two, refl)
-  every_effect_opens through_once = (odd_odd, refl)
-  every_effect_opens through_twice = (even_one, refl)
+pub every_effect_opens : (e : Effect) → (c : Class) × (opening e ≡ Some c)
+every_effect_opens nothing = (even_front, refl)
+every_effect_opens from_front = (even_front, refl)
+every_effect_opens from_back = (even_two, refl)
+every_effect_opens both_ends = (even_two, refl)
+every_effect_opens through_once = (odd_odd, refl)
+every_effect_opens through_twice = (even_one, refl)
 
+module _ (prices : Effect → ℕ) (was : Tables) (room : HasRow 0 was) where
   -- the offer of an effect in aisle 0 is met
   opened_met : (e : Effect) → Makes 0 (FirstWay prices) was (λ d w. (opening e ≡ Some d) × (prices e ≡ w)) (opened prices e)
   opened_met e t s =

@@ -2,14 +2,16 @@
 use Rattle.std.proofs.Common.{◌≡◌, ℕ, zero, suc, ◌+◌, ◌-◌, ◌<◌, ◌≤◌, List, length, get_or, set, replicate, sym, refl, ap, ◌∙◌, add-one, arith, length-set, get_or-set_other, get_or-set_same}
 use native.Mathlib.Decide.{ℕ_discrete}
 use Rattle.classes.specs.Classes.{Class}
+use Rattle.partial.specs.Choice.{number_of, numbers}
+use Rattle.partial.specs.declared.choice.Choice.{Choice}
 use Rattle.partial.specs.Table.{cell}
 use Rattle.partial.specs.Tracing.{choice_class, class_back, chosen}
 
--- nothing but 0
-pub all_zero : (n a : ℕ) → ◌≡◌ {A = ℕ} (get_or (replicate n 0) a 0) 0
-all_zero zero a = refl
-all_zero (suc n) zero = refl
-all_zero (suc n) (suc a) = all_zero n a
+-- nothing but a choice with number 0
+pub all_zero : (c : Choice) → number_of c ≡ 0 → (n a : ℕ) → get_or (numbers (replicate n c)) a 0 ≡ 0
+all_zero c e zero a = refl
+all_zero c e (suc n) zero = e
+all_zero c e (suc n) (suc a) = all_zero c e n a
 
 module _ (m : ℕ) (came : List ℕ) (end : Class) where
   -- k choices are read, and the next class is known
@@ -18,19 +20,19 @@ module _ (m : ℕ) (came : List ℕ) (end : Class) where
       (length choices ≡ 64) × (c ≡ class_back m came end k) × ((a : ℕ) → m ≤ a → get_or choices a 0 ≡ 0)
       × ((j : ℕ) → j < k → get_or choices (m - 1 - j) 0 ≡ get_or came (cell (m - 1 - j) (class_back m came end j)) 0)
 
-  pub read_none : (choices : List ℕ) → length choices ≡ 64 → ((a : ℕ) → get_or choices a 0 ≡ 0) → Read choices end 0
+  pub read_none : (choices : List ℕ) (k : ℕ) → length choices ≡ 64 → ((a : ℕ) → get_or choices a 0 ≡ 0) → k ≡ 0 → Read choices end k
   unfolding class_back
-  read_none choices e z = (e, refl, λ a l. z a, λ j h. absurd (omega arith))
+  read_none choices k e z none = (e, ap (class_back m came end) (sym none), λ a l. z a, λ j h. absurd (omega arith))
 
   pub read_more :
-      (choices : List ℕ) (c d : Class) (k i x : ℕ) → m ≤ 64 → k < m → i ≡ m - 1 - k → x ≡ get_or came (cell i c) 0 → d ≡ choice_class x → Read choices c k →
-      Read (set choices i x) d (k + 1)
+      (choices : List ℕ) (c d : Class) (k i x next_k : ℕ) → m ≤ 64 → k < m → i ≡ m - 1 - k → next_k ≡ k + 1 → x ≡ get_or came (cell i c) 0 → d ≡ choice_class x →
+      Read choices c k → Read (set choices i x) d next_k
   unfolding class_back
-  read_more choices c d k i x few l at is next (long, class, beyond, earlier) = (
+  read_more choices c d k i x next_k few l at one is next (long, class, beyond, earlier) = (
     length-set choices i x ∙ long,
-    next ∙ ap choice_class (is ∙ behind) ∙ ap (class_back m came end) (sym (add-one k)),
+    next ∙ ap choice_class (is ∙ behind) ∙ ap (class_back m came end) (sym (add-one k) ∙ sym one),
     λ a h. get_or-set_other choices i a x 0 (λ z. omega arith) ∙ beyond a h,
-    λ j h. all j h,
+    λ j h. all j (omega arith),
   )
     where
       behind : get_or came (cell i c) 0 ≡ get_or came (cell (m - 1 - k) (class_back m came end k)) 0

@@ -1,5 +1,5 @@
 -- What an aisle costs, by the effect of its use. Assumes nothing: these are definitions.
-use Rattle.std.specs.Prelude.{ℕ, List, Some, None, Option}
+use Rattle.std.specs.Prelude.{ℕ, List, Some, None, Option, slice_index}
 use Rattle.aisle.specs.Costs.{Use, use_cost, best, Effect, nothing, from_front, from_back, both_ends, through_once, through_twice}
 use Rattle.aisle.specs.Reach.{Reach, best_from}
 use Rattle.partial.specs.declared.prices.Prices.{Prices}
@@ -22,9 +22,9 @@ price_from deep r e = cost_or_never deep (best_from deep r e)
 
 -- the prices that the code's value stands for
 abbrev pub priced : Prices → Effect → ℕ
-priced p nothing = p.nothing
-priced p from_front = p.from_front
-priced p from_back = p.from_back
-priced p both_ends = p.both_ends
-priced p through_once = p.once
-priced p through_twice = p.twice
+priced p nothing = slice_index p.0 0
+priced p from_front = slice_index p.0 1
+priced p from_back = slice_index p.0 2
+priced p both_ends = slice_index p.0 3
+priced p through_once = slice_index p.0 4
+priced p through_twice = slice_index p.0 5

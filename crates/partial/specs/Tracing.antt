@@ -1,5 +1,5 @@
 -- The choices of the plan that leads to a class of the last row, read back from where each partial tour came. Assumes nothing: these are definitions.
-use Rattle.std.specs.Prelude.{ℕ, zero, suc, ◌-◌, ◌/◌, ◌%◌, cond, List, ◌==◌, slice_index}
+use Rattle.std.specs.Prelude.{ℕ, zero, suc, ◌-◌, ◌/◌, ◌%◌, ◌<◌, ◌≤◌, cond, List, ◌==◌, slice_index}
 use Rattle.aisle.specs.Costs.{Effect, nothing, from_front, from_back, both_ends, through_once, through_twice}
 use Rattle.classes.specs.Classes.{Class, odd_odd, even_back, even_front, even_one, even_two, nothing_yet, closed, Passage, none, one_each, two_front, two_back, two_each}
 use Rattle.partial.specs.Table.{cell}
@@ -34,3 +34,7 @@ class_back aisles came end (suc k) = choice_class (slice_index came (cell (aisle
 -- the choice of that plan at an aisle
 abbrev pub chosen : ℕ → List ℕ → Class → ℕ → ℕ
 chosen aisles came end a = slice_index came (cell a (class_back aisles came end (aisles - 1 - a)))
+
+-- every entry in the rows of so many aisles is the number of a choice
+abbrev pub EachChoice : ℕ → List ℕ → Type 0
+EachChoice aisles came = (a : ℕ) (c : Class) → a < aisles → slice_index came (cell a c) ≤ 209

@@ -1,14 +1,14 @@
 // The class in which the shortest whole tour ends.
-ghost use Rattle.std.specs.Prelude.{◌≡◌, ◌<◌, ◌≤◌, length};
+ghost use Rattle.std.specs.Prelude.{◌≡◌, ◌<◌};
 ghost use Rattle.partial.specs.Ending.{Shorter, shorter, Ends, ending};
 ghost use Rattle.classes.specs.Values.{class_of};
 
-use crate::table::cell;
+use crate::table::{CELLS, cell};
 use classes::Class;
 
 // The one of two classes with the shorter partial tour, the first if they are as long.
-fn shorter(lengths: &[u32], aisle: usize, first: Class, second: Class) -> Class
-    requires { (448 ≤ length lengths.now) × (aisle < 64) }
+fn shorter(lengths: &[u32; CELLS], aisle: usize, first: Class, second: Class) -> Class
+    requires { aisle < 64 }
     ensures shorter { Shorter lengths.now aisle (class_of first) (class_of second) (class_of result) }
     ensures chosen { class_of result ≡ shorter lengths.now aisle (class_of first) (class_of second) }
 {
@@ -20,13 +20,19 @@ fn shorter(lengths: &[u32], aisle: usize, first: Class, second: Class) -> Class
 }
 
 // Of the classes that are whole tours the one with the shortest in the row of an aisle.
-pub(crate) fn ending(lengths: &[u32], aisle: usize) -> Class
-    requires { (448 ≤ length lengths.now) × (aisle < 64) }
+pub(crate) fn ending(lengths: &[u32; CELLS], aisle: usize) -> Class
+    requires { aisle < 64 }
     ensures ends { Ends lengths.now aisle (class_of result) }
     ensures chosen { class_of result ≡ ending lengths.now aisle }
 {
-    let class = shorter(lengths, aisle, Class::Closed, Class::EvenFront);
-    let class = shorter(lengths, aisle, class, Class::EvenOne);
-    let class = shorter(lengths, aisle, class, Class::EvenBack);
-    shorter(lengths, aisle, class, Class::NothingYet)
+    let mut class = Class::Closed;
+    for other in [
+        Class::EvenFront,
+        Class::EvenOne,
+        Class::EvenBack,
+        Class::NothingYet,
+    ] {
+        class = shorter(lengths, aisle, class, other);
+    }
+    class
 }

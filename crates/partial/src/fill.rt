@@ -1,31 +1,16 @@
 // The table of partial tours, filled by recursion over the aisles that are left.
-ghost use Rattle.std.specs.Prelude.{◌≡◌, ◌-◌, ◌<◌, ◌≤◌, length, drop};
+ghost use Rattle.std.specs.Prelude.{◌-◌, ◌<◌, ◌≤◌, length, drop};
 ghost use Rattle.house.specs.Reading.{house_of};
 ghost use Rattle.aisle.specs.Values.{spots_of};
 ghost use Rattle.partial.specs.Filling.{row, filled, PartOf};
+ghost use Rattle.partial.specs.Lent.{Changed};
 ghost use Rattle.partial.specs.Prices.{priced};
-ghost use Rattle.partial.specs.Table.{tables};
 
 use crate::prices::Prices;
-use crate::row::{Stage, first_row, next_row};
+use crate::row::Stage;
+use crate::table::Tables;
 use aisle::{Reach, part_end};
 use house::{House, Spot};
-
-fn fill_row(house: House, aisle: u8, prices: Prices, lengths: &mut [u32], came: &mut [u8])
-    requires { (448 ≤ length lengths.old) × ((448 ≤ length came.old) × (aisle < 64)) }
-    ensures { tables lengths.new came.new ≡ row (house_of house) aisle (priced prices) (tables lengths.old came.old) }
-{
-    if aisle == 0 {
-        first_row(lengths, came, prices);
-    } else {
-        let stage = Stage {
-            aisle: (aisle - 1) as usize,
-            apart: house.apart,
-            prices,
-        };
-        next_row(lengths, came, stage);
-    }
-}
 
 // The end of an aisle's picks, and what the aisle costs.
 #[derive(Clone, Copy)]
@@ -43,22 +28,33 @@ fn part(house: House, picks: &[Spot], from: usize, aisle: u8) -> Costed
     Costed { to, prices }
 }
 
-// The rows from an aisle on, for the picks from a place on.
-pub(crate) fn fill(
-    house: House,
-    picks: &[Spot],
-    from: usize,
-    aisle: u8,
-    lengths: &mut [u32],
-    came: &mut [u8],
-)
-    requires { (448 ≤ length lengths.old) × ((448 ≤ length came.old) × (from ≤ length picks.now)) }
-    ensures { tables lengths.new came.new ≡ filled (house_of house) (house.aisles - aisle) aisle (spots_of (drop from picks.now)) (tables lengths.old came.old) }
-{
-    if aisle >= house.aisles {
-        return;
+impl Tables<'_> {
+    fn fill_row(&mut self, house: House, aisle: u8, prices: Prices)
+        requires { aisle < 64 }
+        ensures { Changed (row (house_of house) aisle (priced prices)) self.old self.new }
+    {
+        if aisle == 0 {
+            self.first_row(prices);
+        } else {
+            let stage = Stage {
+                aisle: (aisle - 1) as usize,
+                apart: house.apart,
+                prices,
+            };
+            self.next_row(stage);
+        }
     }
-    let next = part(house, picks, from, aisle);
-    fill_row(house, aisle, next.prices, lengths, came);
-    fill(house, picks, next.to, aisle + 1, lengths, came);
+
+    // The rows from an aisle on, for the picks from a place on.
+    pub(crate) fn fill(&mut self, house: House, picks: &[Spot], from: usize, aisle: u8)
+        requires { from ≤ length picks.now }
+        ensures { Changed (filled (house_of house) (house.aisles - aisle) aisle (spots_of (drop from picks.now))) self.old self.new }
+    {
+        if aisle >= house.aisles {
+            return;
+        }
+        let next = part(house, picks, from, aisle);
+        self.fill_row(house, aisle, next.prices);
+        self.fill(house, picks, next.to, aisle + 1);
+    }
 }

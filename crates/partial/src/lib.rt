@@ -1,6 +1,7 @@
 // Partial tours: what the next aisle costs, the table of the shortest of each class, and the choices of the best plan, read back from it.
 #![tactic(auto)]
 
+mod choice;
 mod choosing;
 mod ending;
 mod fill;
@@ -9,5 +10,6 @@ mod row;
 mod table;
 mod trace;
 
+pub use choice::Choice;
 pub use choosing::best_choices;
-pub use trace::{choice_effect, choice_passage};
+pub use table::CELLS;

@@ -8,16 +8,9 @@ ghost use Rattle.partial.specs.Prices.{priced, price_from};
 
 use aisle::{Effect, Reach, cheapest};
 
-// The cost of the cheapest use with each effect; `u32::MAX` where there is none.
+// The cost of the cheapest use with each effect, at the place of its number; `u32::MAX` where there is none.
 #[derive(Clone, Copy)]
-pub(crate) struct Prices {
-    pub(crate) nothing: u32,
-    pub(crate) from_front: u32,
-    pub(crate) from_back: u32,
-    pub(crate) both_ends: u32,
-    pub(crate) once: u32,
-    pub(crate) twice: u32,
-}
+pub(crate) struct Prices([u32; 6]);
 
 fn price(deep: u8, reach: Option<Reach>, effect: Effect) -> u32
     ensures { result ≡ price_from deep (option_map reach_of reach) (effect_of effect) }
@@ -33,26 +26,12 @@ impl Prices {
     pub(crate) fn past(deep: u8, reach: Option<Reach>) -> Prices
         ensures { (e : EffectOnEnds) → priced result e ≡ price_from deep (option_map reach_of reach) e }
     {
-        Prices {
-            nothing: price(deep, reach, Effect::Nothing),
-            from_front: price(deep, reach, Effect::FromFront),
-            from_back: price(deep, reach, Effect::FromBack),
-            both_ends: price(deep, reach, Effect::BothEnds),
-            once: price(deep, reach, Effect::ThroughOnce),
-            twice: price(deep, reach, Effect::ThroughTwice),
-        }
+        Prices(Effect::ALL.map(|effect| price(deep, reach, effect)))
     }
 
     pub(crate) fn of(self, effect: Effect) -> u32
         ensures { result ≡ priced self (effect_of effect) }
     {
-        match effect {
-            Effect::Nothing => self.nothing,
-            Effect::FromFront => self.from_front,
-            Effect::FromBack => self.from_back,
-            Effect::BothEnds => self.both_ends,
-            Effect::ThroughOnce => self.once,
-            Effect::ThroughTwice => self.twice,
-        }
+        self.0[effect as usize]
     }
 }

@@ -1,6 +1,6 @@
 -- Writing the uses of an aisle, one run after the other. Assumes nothing.
-use Rattle.std.proofs.Common.{◌≡◌, ℕ, ◌+◌, ◌-◌, ◌<◌, ◌≤◌, min, ◌⊎◌, List, length, get_or, set, Some, sym, refl, ap, ◌∙◌, subst, inl, inr, arith, get_or-set_other, get_or-set_same}
-use native.Mathlib.Decide.{dec_lt, ℕ_discrete}
+use Rattle.std.proofs.Common.{◌≡◌, ℕ, ◌+◌, ◌-◌, ◌<◌, ◌≤◌, min, ◌⊎◌, List, get_or, Some, sym, ap, ◌∙◌, inl, inr, arith}
+use native.Mathlib.Decide.{dec_lt}
 use Rattle.aisle.specs.Costs.{leaving, hole}
 use Rattle.planner.specs.Laying.{Painted}
 
@@ -8,30 +8,6 @@ use Rattle.planner.specs.Laying.{Painted}
 pub record Run (start n v : ℕ) (was is : List ℕ) : Type 0 where
   pub inside : (i : ℕ) → i < n → get_or is (start + i) 0 ≡ v
   pub outside : (i : ℕ) → (i < start) ⊎ (start + n ≤ i) → get_or is i 0 ≡ get_or was i 0
-
-module _ (start v : ℕ) (was : List ℕ) where
-  pub run_none : Run start 0 v was was
-  run_none = record { inside = λ i h. absurd (omega arith); outside = λ i h. refl }
-
-  pub run_more : (is : List ℕ) (n : ℕ) → start + n < length is → Run start n v was is → Run start (n + 1) v was (set is (start + n) v)
-  run_more is n l p = record { inside = all; outside = λ i h. get_or-set_other is (start + n) i v 0 (other i h) ∙ p.outside i (before i h) }
-    where
-      other : (i : ℕ) → (i < start) ⊎ (start + (n + 1) ≤ i) → i ≡ start + n → ⊥
-      other i (inl h) z = omega arith
-      other i (inr h) z = omega arith
-
-      before : (i : ℕ) → (i < start) ⊎ (start + (n + 1) ≤ i) → (i < start) ⊎ (start + n ≤ i)
-      before i (inl h) = inl h
-      before i (inr h) = inr (omega arith)
-
-      all : (i : ℕ) → i < n + 1 → get_or (set is (start + n) v) (start + i) 0 ≡ v
-      all i h = elim (ℕ_discrete i n) [
-        | yes z ↦ ap (λ (k : ℕ). get_or (set is (start + n) v) (start + k) 0) z ∙ get_or-set_same is (start + n) v 0 l
-        | no z ↦ get_or-set_other is (start + n) (start + i) v 0 (λ q. z (omega arith)) ∙ p.inside i (omega arith)
-      ]
-
-  pub run_all : (is : List ℕ) (i n : ℕ) → i ≡ n → Run start i v was is → Run start n v was is
-  run_all is i n e = subst (λ (k : ℕ). Run start k v was is) e
 
 -- a gap is a run within another
 pub painted_gap :

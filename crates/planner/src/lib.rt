@@ -13,5 +13,7 @@ pub use laws::{
     exchange, plans_are_round, plans_enough, plans_have_classes, rows_are_least, shortest_exists,
     table_is_least, worked_lengths,
 };
-pub use memory::{CELLS, Lent, PICKS, STEPS, USES};
+pub use memory::{Lent, PICKS, STEPS};
+pub use partial::CELLS;
 pub use planning::plan;
+pub use uses::ROOM as USES;

@@ -3,18 +3,14 @@ ghost use Rattle.std.specs.Prelude.{◌≡◌, Some, None, MatchResult};
 ghost use Rattle.planner.specs.Planning.{held, memory_rule};
 
 use house::{Memory, Refusal, Spot};
+use partial::CELLS;
+use uses::ROOM;
 
 // Picks of a list.
 pub const PICKS: usize = 512;
 
-// Cells of a table of partial tours, seven for each of 64 aisles.
-pub const CELLS: usize = 448;
-
 // Steps of a tour: each use of the largest house, once or twice.
 pub const STEPS: usize = 25852;
-
-// Uses of the largest house.
-pub const USES: usize = 12926;
 
 #[derive(Drop)]
 pub struct Lent<'a> {
@@ -43,7 +39,7 @@ impl Lent<'_> {
         let STEPS.. = self.steps.len() else {
             return Err(Refusal::Short(Memory::Steps));
         };
-        let USES.. = self.uses.len() else {
+        let ROOM.. = self.uses.len() else {
             return Err(Refusal::Short(Memory::Uses));
         };
         Ok(())

@@ -1,15 +1,10 @@
-use Rattle.std.proofs.Common.{ap, ◌∙◌}
-use native.Mathlib.Numerals.{unary_clauses}
-use Rattle.classes.specs.Classes.{Class}
-use Rattle.partial.specs.Tracing.{chosen}
-use Rattle.partial.proofs.Endings.{ending_ends}
+use Rattle.std.proofs.Common.{◌≤◌, get_or, sym, subst, arith}
+use Rattle.house.specs.Reading.{house_of}
+use Rattle.partial.specs.Table.{cell, Tables}
+use Rattle.partial.proofs.Numbered.{filled_small}
 use Rattle.partial.proofs.choosing.choose.Goals as goal
 
-pub returns : goal.returns
-returns c =
-    record {
-      table = simp unary_clauses at c.fill.ensures;
-      ends = ending_ends _ _;
-      each = λ a l. c.trace.ensures.each a l ∙ ap (λ (e : Class). chosen c.args.house.aisles c.fill.new.came e a) c.ending-end.ensures.chosen;
-      others = c.trace.ensures.beyond;
-    }
+pub trace-requires-clause-choices : goal.trace-requires-clause-choices
+trace-requires-clause-choices c = λ a d l.
+    subst (λ (t : Tables). get_or t.came (cell a d) 0 ≤ 209) (sym c.fill.ensures.holds)
+    (filled_small (house_of c.args.house) _ 0 _ _ a d (omega arith) (λ m. absurd (omega arith)))

@@ -1,9 +1,12 @@
-use Rattle.std.proofs.Common.{sym, subst}
+use Rattle.std.proofs.Common.{sym, subst, arith}
 use Rattle.partial.specs.Ending.{Ends}
-use Rattle.partial.proofs.Endings.{ending_by, ending_ends}
+use Rattle.partial.proofs.Endings.{shortest_more, shortest_of_all, ending_ends}
 use Rattle.partial.proofs.ending.ending.Goals as goal
+
+pub loop-other-preserved : goal.loop-other-preserved
+loop-other-preserved c = shortest_more c.args.lengths.now c.args.aisle c.loop-other.other-index _ _ _ (omega arith) c.loop-other.invariant c.shorter-class.ensures.chosen
 
 pub returns : goal.returns
 returns c =
-    let taken = ending_by c.args.lengths.now c.args.aisle _ _ _ _ c.shorter-class.ensures.chosen c.shorter-class-2.ensures.chosen c.shorter-class-3.ensures.chosen c.shorter.ensures.chosen in
+    let taken = shortest_of_all c.args.lengths.now c.args.aisle c.loop-other.other-index _ (omega arith) c.loop-other.invariant in
     record { ends = subst (Ends c.args.lengths.now c.args.aisle) (sym taken) (ending_ends c.args.lengths.now c.args.aisle); chosen = taken }

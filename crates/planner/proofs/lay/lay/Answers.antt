@@ -20,4 +20,4 @@ loop-aisle-preserved c =
     let room : places (house_of c.args.house) ≤ length c.loop-aisle.uses
     = omega (arith, places_few (house_of c.args.house) c.args.house.few_aisles c.args.house.little_depth) in
     lay_turn (house_of c.args.house) c.args.choices c.args.picks.now c.args.uses.now c.loop-aisle.from c.part_end-to.result c.loop-aisle.aisle
-    c.loop-aisle.uses c.lay_aisle.new.uses (omega arith) room c.part_end-to.ensures c.lay_aisle.ensures c.loop-aisle.invariant
+    c.loop-aisle.uses c.lay_aisle.new.uses _ (omega arith) (omega arith) room c.part_end-to.ensures c.lay_aisle.ensures c.loop-aisle.invariant

@@ -2,6 +2,7 @@ use Rattle.std.proofs.Common.{arith}
 use Rattle.house.specs.Reading.{house_of}
 use Rattle.uses.proofs.Places.{lanes_few}
 use Rattle.planner.proofs.LaidOut.{aisle_end}
+use Rattle.planner.proofs.LayTurn.{adds_choice}
 use Rattle.planner.proofs.lay.lay_aisle.Goals as goal
 
 pub paint-requires : goal.paint-requires
@@ -11,3 +12,8 @@ paint-requires c =
       aisle_end (house_of c.args.house) c.args.aisle c.args.house.aisles c.requires.1,
       lanes_few (house_of c.args.house) c.args.house.few_aisles c.args.house.little_depth,
     )
+
+pub returns : goal.returns
+returns c =
+    adds_choice (house_of c.args.house) c.args.aisle c.args.choice _ _ c.args.uses.now c.paint.new.uses c.cross.new.uses c.paint.auto.uses
+    (record { inside = c.paint.ensures.inside; outside = c.paint.ensures.outside }) c.cheapest_past-way.ensures.best c.cross.ensures

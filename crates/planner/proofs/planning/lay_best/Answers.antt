@@ -1,7 +1,5 @@
-use Rattle.std.proofs.Common.{arith}
 use Rattle.house.specs.Bounds.{picks_of}
 use Rattle.house.specs.Reading.{house_of}
-use Rattle.aisle.specs.Values.{spots_of}
 use Rattle.partial.specs.Table.{tables}
 use Rattle.planner.proofs.Routes.{is_chosen, facts}
 use Rattle.planner.proofs.planning.lay_best.Goals as goal
@@ -12,5 +10,5 @@ unwrap-choices-requires c = is_chosen _ _ (tables c.args.lengths.now c.args.came
 pub returns : goal.returns
 returns c =
     let f = facts (house_of c.args.list.house) (picks_of c.args.list.bytes.now) _ _ _ _ _ _ _ _ c.unwrap-choices.result c.unwrap-n.result _ _ c.sort_picks.ensures
-        c.unwrap-n.ensures c.best_choices.ensures c.unwrap-choices.ensures c.lay.ensures in
+    c.unwrap-n.ensures c.best_choices.ensures c.unwrap-choices.ensures c.lay.ensures in
     record { sorted = f.holds; laid = f.laid }

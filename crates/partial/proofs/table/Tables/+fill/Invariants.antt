@@ -1,5 +1,5 @@
 use Rattle.std.proofs.Common.{◌-◌}
-use Rattle.partial.proofs.fill.+fill.Given as goal
+use Rattle.partial.proofs.table.Tables.+fill.Given as goal
 
 -- the aisles that are left
 abbrev pub decreases-fill : goal.decreases-fill
