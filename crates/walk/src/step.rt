@@ -1,5 +1,5 @@
 // The six steps of a way, and the byte that each is written as.
-ghost use Rattle.std.specs.Prelude.{◌≡◌, ◌≤◌, Some, None};
+ghost use Rattle.std.specs.Prelude.{◌≡◌, Some};
 ghost use Rattle.walk.specs.Codes.{byte_of, StepOf};
 ghost use Rattle.walk.specs.Shown.{unknown_line};
 
@@ -19,7 +19,7 @@ pub enum Step {
     BeforeBack,
 }
 
-/// A byte above 5, which no step is written as.
+// A byte above 5, which no step is written as.
 #[derive(Clone, Copy, Debug, PartialEq, Eq)]
 pub struct UnknownStep(pub u8);
 
@@ -33,19 +33,6 @@ impl Step {
         Step::NextBack,
         Step::BeforeBack,
     ];
-
-    pub fn byte(self) -> u8
-        ensures { result ≡ byte_of self }
-    {
-        u8::from(self)
-    }
-
-    // The step that a byte is read as; above 5 there is none.
-    pub fn of(byte: u8) -> Option<Step>
-        ensures { elim result [ Some s ↦ byte_of s ≡ byte | None ↦ 6 ≤ byte ] }
-    {
-        Step::try_from(byte).ok()
-    }
 }
 
 impl From<Step> for u8 {

@@ -1,6 +1,6 @@
 use Rattle.std.proofs.Common.{rules, tests, sym, ap}
 use Rattle.house.specs.Bounds.{picks_of}
-use Rattle.house.proofs.Going.{first_found}
+use Rattle.house.proofs.Searching.{first_found}
 use Rattle.walk.specs.Marking.{unmarked}
 use Rattle.walk.proofs.checker.first_missed.Goals as goal
 
