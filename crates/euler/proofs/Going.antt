@@ -7,7 +7,7 @@ use Rattle.house.specs.Reading.{spot_of}
 use Rattle.house.specs.declared.layout.Spot as code
 use Rattle.uses.specs.Layout.{places}
 use Rattle.euler.specs.Choosing.{Opens}
-use Rattle.euler.specs.Passing.{advanced, filled, Worn, Straight, Ran}
+use Rattle.euler.specs.Passing.{advanced_by, filled, Worn, Straight, Ran}
 use Rattle.euler.specs.declared.pass.Pass.{Pass}
 use Rattle.euler.specs.declared.stretch.Stretch.{Stretch}
 use Rattle.euler.proofs.Lanes.{part_at, hop, leads_once}
@@ -79,7 +79,7 @@ worn_once {left} entry here taken =
 pub once_ran :
     {h : House} {left left' steps steps' : List ℕ} (p : Pass) {q : Pass} {to : code.Spot} {byte entry : ℕ} →
     Opens h left (spot_of p.at) byte entry (spot_of to) → entry < length left → p.top < p.tail →
-    left' ≡ set left entry (get_or left entry 0 - 1) → steps' ≡ set steps p.top byte → q ≡ advanced p 1 to → Ran h left left' steps steps' p q
+    left' ≡ set left entry (get_or left entry 0 - 1) → steps' ≡ set steps p.top byte → q ≡ advanced_by p 1 to → Ran h left left' steps steps' p q
 once_ran {steps = steps} p {to = to} {byte} {entry} opens here room taken written is =
     record {
       byte = byte;
@@ -139,7 +139,7 @@ module _ {h : House} {left : List ℕ} {at : code.Spot} {room byte : ℕ} {s : S
 
       pub straight_ran :
           {steps steps' : List ℕ} (p : Pass) {q : Pass} → p.at ≡ at → p.tail - p.top ≡ room → p.top ≤ p.tail → steps' ≡ filled steps p.top byte s.long →
-          q ≡ advanced p s.long s.to → Ran h left (middle left ys s.start n) steps steps' p q
+          q ≡ advanced_by p s.long s.to → Ran h left (middle left ys s.start n) steps steps' p q
       straight_ran p here space below written is =
           record {
             byte = byte;

@@ -16,8 +16,8 @@ abbrev pub begun : ℕ → Pass
 begun n = record { top = 0; tail = n; at = record { aisle = 0; depth = 0 }; end = record { aisle = 0; depth = 0 } }
 
 -- so many steps on, to a spot
-abbrev pub advanced : Pass → ℕ → code.Spot → Pass
-advanced p long to = record { top = p.top + long; tail = p.tail; at = to; end = p.end }
+abbrev pub advanced_by : Pass → ℕ → code.Spot → Pass
+advanced_by p long to = record { top = p.top + long; tail = p.tail; at = to; end = p.end }
 
 abbrev pub retreated : Pass → code.Spot → Pass
 retreated p from = record { top = p.top - 1; tail = p.tail - 1; at = from; end = from }

@@ -1,7 +1,7 @@
 // The state of the walk, and its turns: steps on, and one step back.
 ghost use Rattle.std.specs.Prelude.{◌≡◌, ◌+◌, ◌-◌, ◌<◌, ◌≤◌, length, slice_index, slice_set};
 ghost use Rattle.house.specs.Reading.{spot_of};
-ghost use Rattle.euler.specs.Passing.{begun, advanced, retreated, origin};
+ghost use Rattle.euler.specs.Passing.{begun, advanced_by, retreated, origin};
 
 use house::Spot;
 use walk::{DESK, Step};
@@ -32,7 +32,7 @@ impl Pass {
     // So many steps on, to a spot: they go onto the stack.
     pub(crate) fn advance(&mut self, long: usize, to: Spot)
         requires { self.old.top + long ≤ self.old.tail }
-        ensures { self.new ≡ advanced self.old long to }
+        ensures { self.new ≡ advanced_by self.old long to }
     {
         self.top += long;
         self.at = to;
