@@ -26,7 +26,7 @@ impl Gap {
     }
 
     // The wider of two gaps, this one if they are as wide.
-    // Kept: max_by_key hands on the second of two as wide, so the two would stand turned round.
+    // Kept: (d) `max_by_key` hands on the second of two as wide, so the two would stand turned round.
     fn or_wider(self, other: Gap) -> Gap
         ensures { gap_of result ≡ wider (gap_of self) (gap_of other) }
     {

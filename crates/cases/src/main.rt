@@ -16,6 +16,7 @@ fn main(rt: HostRuntime) -> anyhow::Result<()> {
 fn plan_case(rt: &HostRuntime, name: &str) -> anyhow::Result<()> {
     let heap = rt.alloc();
     let file = fs::read(rt, name)?;
+    // Kept: (d) `plan` lends memory so too; a function that lent it would have to own what it hands out slices of.
     let mut picks = vec![in heap; Spot { aisle: 0, depth: 0 }; PICKS]?;
     let mut lengths = vec![in heap; 0u32; CELLS]?;
     let mut came = vec![in heap; 0u8; CELLS]?;

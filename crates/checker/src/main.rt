@@ -10,7 +10,7 @@ use walk::Verdict;
 const HELP: &str = "check [FILE]    judge the way that FILE, or standard input, claims to be a tour
 check --help    print this";
 
-// Kept: `plan` has this too; what comes from outside has no contract, which a library's function needs (d).
+// Kept: (d) `plan` has this too; what comes from outside has no contract, which a library's function needs.
 fn input(rt: &HostRuntime, source: Source) -> io::Result<Vec<u8>> {
     match source {
         Source::File(path) => fs::read(rt, path),
@@ -47,6 +47,7 @@ fn run(rt: &HostRuntime, command: CheckCommand) -> anyhow::Result<bool> {
 }
 
 // What goes wrong is told here, and the status is all that is left of it.
+// Kept: (d) `plan` begins and ends so too; one function for both would take the command, the run and the name as parameters.
 fn main(rt: HostRuntime) -> io::Result<ExitCode> {
     let args: Vec<String> = env::args(&rt)?.skip(1).collect(rt.alloc())?;
     let args: Vec<&str> = args.iter().map(|arg| arg.as_str()).collect(rt.alloc())?;

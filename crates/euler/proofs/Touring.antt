@@ -1,5 +1,5 @@
 -- A closed walk with the uses of a slice is a tour past every pick that they link with the desk, and shows that they are round. Assumes nothing.
-use Rattle.std.proofs.Common.{ℕ, Bool, true, false, List, [], sym, ◌∙◌, inl, inr, arith}
+use Rattle.std.proofs.Common.{ℕ, true, List, [], sym, ◌∙◌, inl, inr, arith}
 use Rattle.graph.specs.Trails.{passes}
 use Rattle.graph.proofs.Walked.{walked_is_eulerian, walks_past}
 use Rattle.house.specs.House.{House, Spot}
@@ -10,7 +10,7 @@ use Rattle.uses.specs.Uses.{Round}
 use Rattle.uses.specs.Walked.{to_trail}
 use Rattle.uses.proofs.Laws.{house_laws}
 use Rattle.uses.proofs.Tours.{Toured, toured_length}
-use Rattle.euler.specs.Passing.{Closes, Settled, Settles}
+use Rattle.euler.specs.Passing.{Closes, Settled}
 use Rattle.euler.specs.Walking.{Measured, Tours, WalksOver}
 use Rattle.euler.specs.declared.answer.Walked.{Walked}
 use Rattle.euler.proofs.Rounded.{eulerian_alike, round_picked, eulerian_round}
@@ -62,6 +62,5 @@ module _ (h : House) where
           beyond = z.beyond;
         }
 
-    pub settles_over : (r : Bool) → Settles h us us' steps steps' w.steps r → WalksOver h us us' steps steps' w r
-    settles_over true z = (closes_round z.closes, λ picks round. settled_tours z round)
-    settles_over false z = (z.0, (z.1, z.2))
+    pub settled_over : Settled h us us' steps steps' w.steps → WalksOver h us us' steps steps' w true
+    settled_over z = (closes_round z.closes, λ picks round. settled_tours z round)

@@ -1,5 +1,5 @@
 -- One pass over the uses, turn by turn: a stack of steps that grows and a tail of steps that is finished. Assumes nothing: these are definitions.
-use Rattle.std.specs.Prelude.{◌≡◌, ℕ, zero, suc, ◌+◌, ◌-◌, ◌<◌, ◌≤◌, Bool, true, false, cond, ◌||◌, List, [], length, take, ◌==◌, slice_index, slice_set}
+use Rattle.std.specs.Prelude.{◌≡◌, ℕ, zero, suc, ◌+◌, ◌-◌, ◌<◌, ◌≤◌, Bool, true, false, cond, ◌||◌, List, [], length, take, Ok, Err, Result, ◌==◌, slice_index, slice_set}
 use Rattle.house.specs.House.{House, Spot, spot, desk}
 use Rattle.house.specs.Reading.{spot_of}
 use Rattle.house.specs.declared.layout.Spot as code
@@ -9,6 +9,8 @@ use Rattle.uses.specs.Layout.{places, held_in, uses_in}
 use Rattle.uses.specs.Looking.{Sees}
 use Rattle.uses.specs.Uses.{Round}
 use Rattle.uses.specs.Walked.{counted}
+use Rattle.euler.specs.declared.answer.Unwalked.{Unwalked}
+use Rattle.euler.specs.declared.answer.Unwalked.TheVariants.{NotRound}
 use Rattle.euler.specs.declared.pass.Pass.{Pass}
 use Rattle.euler.specs.declared.stretch.Stretch.{Stretch}
 
@@ -94,6 +96,6 @@ pub record Settled (h : House) (us us' steps steps' : List ℕ) (n : ℕ) : Type
   pub used_up : (k : ℕ) → k < places h → slice_index us' k ≡ 0
   pub beyond : (k : ℕ) → places h ≤ k → slice_index us' k ≡ slice_index us k
 
-abbrev pub Settles : House → List ℕ → List ℕ → List ℕ → List ℕ → ℕ → Bool → Type 0
-Settles h us us' steps steps' n true = Settled h us us' steps steps' n
-Settles h us us' steps steps' n false = (Round h [] (uses_in h us) → ⊥) × (us' ≡ us) × (steps' ≡ steps)
+abbrev pub Settles : House → List ℕ → List ℕ → List ℕ → List ℕ → ℕ → Result Unit Unwalked → Type 0
+Settles h us us' steps steps' n (Ok _) = Settled h us us' steps steps' n
+Settles h us us' steps steps' n (Err e) = (e ≡ NotRound) × (Round h [] (uses_in h us) → ⊥) × (us' ≡ us) × (steps' ≡ steps)

@@ -5,6 +5,7 @@ ghost use Rattle.uses.specs.Layout.{places};
 ghost use Rattle.euler.specs.Passing.{Settles};
 ghost use Rattle.euler.specs.Walking.{count_of};
 
+use crate::answer::Unwalked;
 use crate::room::STEPS;
 use crate::tracing::trace;
 use house::House;
@@ -14,7 +15,12 @@ use uses::layout::places;
 const FEW: usize = 1024;
 
 // Small houses and short walks are spared the copies of the largest.
-pub(crate) fn close(house: House, uses: &mut [u8], steps: &mut [u8], n: usize) -> bool
+pub(crate) fn close(
+    house: House,
+    uses: &mut [u8],
+    steps: &mut [u8],
+    n: usize,
+) -> Result<(), Unwalked>
     requires room { 12926 ≤ length uses.old }
     requires total { n ≡ count_of (house_of house) uses.old }
     requires fits { n ≤ 25852 }
@@ -39,7 +45,7 @@ fn settle(
     n: usize,
     left: &mut [u8],
     way: &mut [u8],
-) -> bool
+) -> Result<(), Unwalked>
     requires room { places (house_of house) ≤ length uses.old }
     requires total { n ≡ count_of (house_of house) uses.old }
     requires fits { n ≤ length steps.old }
@@ -50,8 +56,8 @@ fn settle(
     left[..places].copy_from_slice(&uses[..places]);
     if !trace(house, uses, way, n) {
         uses[..places].copy_from_slice(&left[..places]);
-        return false;
+        return Err(Unwalked::NotRound);
     }
     steps[..n].copy_from_slice(&way[..n]);
-    true
+    Ok(())
 }

@@ -12,7 +12,7 @@ use uses::layout::lane;
 use walk::Step;
 
 // So many places are looked at together, without a test for each.
-// Kept: in blocks, since `memchr` takes 28 % longer over aisles of 30 steps, and `position` alone 7 times as long over 200 places.
+// Kept: (b) in blocks, since `memchr` takes 28 % longer over aisles of 30 steps, and `position` alone 7 times as long over 200 places.
 const BLOCK: usize = 8;
 
 // Steps with one byte: the first place of their uses, how many they are, and the spot to which they lead.
@@ -101,7 +101,7 @@ fn each_first(left: &[u8]) -> usize
         .unwrap_or(left.len())
 }
 
-// Kept: counted by hand, since over `chunks_exact`, `take_while` and `count` it stays open that each place is used, and `rchunks_exact` has no clause on its runs.
+// Kept: (c) counted by hand, since over `chunks_exact`, `take_while` and `count` it stays open that each place is used, and `rchunks_exact` has no clause on its runs.
 fn blocks_first(left: &[u8]) -> usize
     ensures within { result ≤ length left.now }
     ensures used { (k : ℕ) → k < result → 0 < slice_index left.now k }

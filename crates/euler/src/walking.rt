@@ -59,9 +59,6 @@ fn walk_over(
     requires { Measures (house_of house) uses.old (length steps.old) (Ok walked) }
     ensures { WalksUses (house_of house) uses.old uses.new steps.old steps.new result }
 {
-    if close(house, uses, steps, walked.steps) {
-        Ok(walked)
-    } else {
-        Err(Unwalked::NotRound)
-    }
+    close(house, uses, steps, walked.steps)?;
+    Ok(walked)
 }

@@ -47,6 +47,7 @@ impl Memory {
 
 impl Refusal {
     // The rule that was broken. Of several the lowest decides, but for 9, which comes before all others.
+    // Kept: (d) the kinds are an enum; its cases hold data, so that no cast gives the numbers that are printed.
     pub fn number(self) -> u8
         ensures { result ≡ number_of self }
     {

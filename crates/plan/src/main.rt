@@ -16,7 +16,7 @@ plan --steps [FILE]    write its steps instead, as check reads them
 plan --svg [FILE]      write a picture of it instead, in SVG
 plan --help            print this";
 
-// Kept: `checker` has this too; what comes from outside has no contract, which a library's function needs (d).
+// Kept: (d) `checker` has this too; what comes from outside has no contract, which a library's function needs.
 fn input(rt: &HostRuntime, source: Source) -> io::Result<Vec<u8>> {
     match source {
         Source::File(path) => fs::read(rt, path),

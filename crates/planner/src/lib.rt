@@ -9,11 +9,12 @@ mod planning;
 pub use classes::{
     Class, Passage, closes, closings_by_rule, opening, transition, transitions_by_rule,
 };
+pub use euler::STEPS;
 pub use laws::{
     exchange, plans_are_round, plans_enough, plans_have_classes, rows_are_least, shortest_exists,
     table_is_least, worked_lengths,
 };
-pub use memory::{Lent, PICKS, STEPS};
+pub use memory::{Lent, PICKS};
 pub use partial::CELLS;
 pub use planning::plan;
 pub use uses::ROOM as USES;

@@ -2,15 +2,13 @@
 ghost use Rattle.std.specs.Prelude.{◌≡◌, Some, None, MatchResult};
 ghost use Rattle.planner.specs.Planning.{held, memory_rule};
 
+use euler::STEPS;
 use house::{Memory, Refusal, Spot};
 use partial::CELLS;
 use uses::ROOM;
 
 // Picks of a list.
 pub const PICKS: usize = 512;
-
-// Steps of a tour: each use of the largest house, once or twice.
-pub const STEPS: usize = 25852;
 
 #[derive(Drop)]
 pub struct Lent<'a> {

@@ -73,16 +73,13 @@ fn passage_of(front: u8, back: u8) -> Result<Passage, Fail> {
 }
 
 fn kind_of(lane: &[u8]) -> Result<Kind, Fail> {
-    let mut changes: usize = 0;
-    let mut least = 255;
-    for i in 0..lane.len() {
-        least = lane[i].min(least);
-        if i > 0 && lane[i] != lane[i - 1] {
-            changes = changes.saturating_add(1);
-        }
-    }
-    let last = at(lane, lane.len().saturating_sub(1));
-    match (at(lane, 0), last, least, changes) {
+    let (Some(first), Some(last), Some(least)) = (lane.first(), lane.last(), lane.iter().min())
+    else {
+        return Err(Fail::new("an aisle of no step"));
+    };
+    let steps = lane.iter().zip(lane.iter().skip(1));
+    let changes = steps.filter(|(here, next)| here != next).count();
+    match (*first, *last, *least, changes) {
         (0, 0, 0, 0) => Ok(Kind::Unused),
         (1, 1, 1, 0) => Ok(Kind::Once),
         (2, 2, 2, 0) => Ok(Kind::Twice),

@@ -9,9 +9,9 @@ use walk::{Verdict, check as judge};
 
 // What the checker reads: the house, the number of picks in two bytes, the picks, and the way.
 fn claim(heap: Global, house: &[u8], list: &[u8], way: &[u8]) -> Result<Vec<u8>, AllocError> {
-    let picks = list.len() / 2;
+    let [low, high, ..] = (list.len() / 2).to_le_bytes();
     let mut bytes = Vec::from_slice(heap, house)?;
-    bytes.extend_from_slice(&[(picks % 256) as u8, (picks / 256 % 256) as u8])?;
+    bytes.extend_from_slice(&[low, high])?;
     bytes.extend_from_slice(list)?;
     bytes.extend_from_slice(way)?;
     Ok(bytes)

@@ -37,7 +37,7 @@ fn measure(house: House, way: &[u8]) -> u128
 {
     let mut pieces = Pieces::of(way);
     let mut length = 0;
-    // Kept: what is left of `pieces` after a `for piece in pieces.by_ref()` is not told, so that `returns` stays open (c).
+    // Kept: (c) what is left of `pieces` after a `for piece in pieces.by_ref()` is not told, so that `returns` stays open.
     while let Some(piece) = pieces.next() {
         length += piece_length(house, piece);
     }

@@ -33,7 +33,7 @@ pub fn check(file: &[u8]) -> Result<Verdict, Refusal>
 pub fn only_steps(way: &[u8]) -> Result<&[u8], Refusal>
     ensures { PassesOn way.now (step_rule way.now) result }
 {
-    // Kept: the request prescribes that a check hands on its value or returns its refusal by `let .. else`.
+    // Kept: (a) the request prescribes that a check hands on its value or returns its refusal by `let .. else`.
     let Some(place) = first_stray(way) else {
         return Ok(way);
     };

@@ -5,6 +5,7 @@ use Rattle.euler.proofs.copies.settle.Goals as goal
 pub returns-then-not-trace : goal.returns-then-not-trace
 returns-then-not-trace c =
     let n = c.places-places.result in (
+      refl,
       c.if-not-trace.ensures.decides,
       copied_back c.args.uses.now c.trace.new.left n (drop n c.args.left.now) (omega arith) (omega arith)
           (λ k l. c.if-not-trace.ensures.beyond k (omega arith)) c.copy_from_slice.ensures.after c.copy_from_slice-then-not-trace.ensures.after,

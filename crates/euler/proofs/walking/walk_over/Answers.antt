@@ -1,7 +1,6 @@
-use Rattle.std.proofs.Common.{true}
-use Rattle.euler.proofs.Touring.{settles_over}
+use Rattle.euler.proofs.Touring.{settled_over}
 use Rattle.euler.proofs.walking.walk_over.Goals as goal
 
-pub returns-then-close : goal.returns-then-close
-returns-then-close c =
-    (c.requires.1, settles_over _ _ c.close.new.uses c.args.steps.now c.close.new.steps c.requires.0 true c.if-close.ensures)
+pub returns : goal.returns
+returns c =
+    (c.requires.1, settled_over _ _ c.close.new.uses c.args.steps.now c.close.new.steps c.requires.0 c.in_ok-close.ensures)
