@@ -7,6 +7,7 @@ use crate::table::{CELLS, cell};
 use classes::Class;
 
 // The one of two classes with the shorter partial tour, the first if they are as long.
+// Kept: (c) no method of `Tables`, since an element of an array behind a `&mut` that lies behind a `&` cannot be read.
 fn shorter(lengths: &[u32; CELLS], aisle: usize, first: Class, second: Class) -> Class
     requires { aisle < 64 }
     ensures shorter { Shorter lengths.now aisle (class_of first) (class_of second) (class_of result) }

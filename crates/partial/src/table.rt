@@ -53,6 +53,7 @@ impl Tables<'_> {
         requires { aisle < 64 }
         ensures { Changed (cleared aisle) self.old self.new }
     {
+        // Kept: (c) by `fill` a part is taken of what lies behind a reference, which is not covered.
         for class in Class::ALL {
             let at = cell(aisle, class);
             self.lengths[at] = u32::MAX;

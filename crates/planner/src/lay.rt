@@ -93,6 +93,7 @@ pub(crate) fn lay(house: House, picks: &[Spot], choices: [Choice; 64], uses: &mu
     ensures { Laid (house_of house) (at (numbers choices)) (part_at (spots_of picks.now)) house.aisles uses.old uses.new }
 {
     let mut from = 0;
+    // Kept: (c) over `(0..house.aisles).zip(choices)` it stays open that the part of the picks begins within them.
     for aisle in 0..house.aisles {
         let to = part_end(picks, from, aisle);
         let choice = choices[aisle as usize];

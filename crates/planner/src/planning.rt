@@ -14,6 +14,7 @@ use house::{PickList, Refusal, Spot, read};
 use partial::best_choices;
 
 // The uses of a shortest tour past the picks of a list.
+// Kept: (c) over a `&mut Lent` the borrow of one slice while another is read is not covered, and through `&mut *self.picks` only its length is known afterwards.
 fn lay_best(
     list: PickList<'_>,
     picks: &mut [Spot],
