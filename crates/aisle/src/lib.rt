@@ -10,7 +10,7 @@ mod parts;
 mod reach;
 
 pub use ends::Ends;
-pub use in_order::sort_picks;
+pub use in_order::{PICKS, sort_picks};
 pub use kinds::{AisleUse, Effect, Gap};
 pub use laws::{best_is_least, kinds_enough, neighbours_enough, sorted_by_aisle, sorted_is_exact};
 pub use least::{cheapest, cheapest_past};
