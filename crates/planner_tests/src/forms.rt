@@ -2,9 +2,10 @@
 use house::House;
 use planner::USES;
 use std::process::Abort;
-use std::test::*;
+use std::test::Fail;
 use uses::count;
 
+// Kept: (d) the test has its own reading of classes and passages, which knows nothing of the planner's.
 #[derive(Clone, Copy)]
 enum Passage {
     Unused,
@@ -180,9 +181,7 @@ impl Counts {
 
     pub fn add_way(&mut self, house: House, way: &[u8]) -> Result<(), Fail> {
         let mut uses = [9; USES];
-        let Ok(_) = count(house, way, &mut uses) else {
-            return Err(Fail::new("not counted"));
-        };
+        count(house, way, &mut uses)?;
         let mut part = Part {
             front: 0,
             back: 0,

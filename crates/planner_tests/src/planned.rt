@@ -4,10 +4,11 @@ use house::Spot;
 use planner::{CELLS, Lent, PICKS, STEPS, USES, plan};
 use std::alloc::{AllocError, Global};
 use std::process::Abort;
-use std::test::*;
+use std::test::Fail;
 use walk::{Verdict, check as judge};
 
 // What the checker reads: the house, the number of picks in two bytes, the picks, and the way.
+// Kept: (d) the test writes the claim by its own reading of the format, so that a fault of `text` is not in both.
 fn claim(heap: Global, house: &[u8], list: &[u8], way: &[u8]) -> Result<Vec<u8>, AllocError> {
     let [low, high, ..] = (list.len() / 2).to_le_bytes();
     let mut bytes = Vec::from_slice(heap, house)?;
@@ -27,13 +28,8 @@ fn check_tour(
     assert!(rt; file.len() >= 3);
     let (house, list) = file.split_at(3);
     let bytes = claim(heap, house, list, way)?;
-    match judge(&bytes) {
-        Ok(Verdict::Way(n)) => {
-            assert_eq!(rt; n, u128::from(length));
-            Ok(())
-        },
-        _ => Err(Fail::new("the way is no tour")),
-    }
+    assert_eq!(rt; judge(&bytes)?, Verdict::Way(u128::from(length)));
+    Ok(())
 }
 
 pub fn planned(
@@ -49,9 +45,7 @@ pub fn planned(
         steps,
         uses: &mut [9; USES],
     };
-    let Ok(walked) = plan(file, &mut memory) else {
-        return Err(Fail::new("refused"));
-    };
+    let walked = plan(file, &mut memory)?;
     let n = walked.steps;
     assert!(rt; n <= STEPS);
     check_tour(rt, heap, file, &steps[0..n], walked.length)?;

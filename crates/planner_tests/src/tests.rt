@@ -7,7 +7,7 @@ use house::read;
 use planner::STEPS;
 use std::alloc::Global;
 use std::process::Abort;
-use std::test::*;
+use std::test::Fail;
 
 // How many small houses are drawn.
 const HOUSES: u32 = 100_000;
@@ -45,9 +45,7 @@ fn check_house(
     file: &[u8],
     counts: &mut Counts,
 ) -> Result<(), Fail> {
-    let Ok(list) = read(file) else {
-        return Err(Fail::new("no house"));
-    };
+    let list = read(file)?;
     let mut steps = [9; STEPS];
     let walked = planned(rt, heap, file, &mut steps)?;
     let n = walked.steps;
