@@ -2,6 +2,7 @@
 use house::{House, Refusal};
 use std::process::Abort;
 
+// Kept: (d) a table shows the number and place that README promises, not the case that has them.
 #[derive(Clone, Copy, PartialEq, Eq, Debug)]
 pub enum Answer {
     // the house that is handed on: its aisles, how deep they are and how far apart

@@ -36,7 +36,7 @@ fn claims_of_many_sizes(rt: HostRuntime) -> Result<(), Fail> {
         let mut want = with_picks(rt.alloc(), &[1, 10, 3, low, high], *picks)?;
         want.extend_from_slice(&WAY)?;
         assert_eq!(rt; claimed.as_slice(), want.as_slice());
-        let verdict = walk::check(claimed.as_slice()).ok().ok_or("refused")?;
+        let verdict = walk::check(&claimed)?;
         let told = format!(in rt.alloc(); "{verdict}")?;
         assert_eq!(rt; told.as_str(), "way of length 2");
     }
