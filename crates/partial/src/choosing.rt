@@ -27,6 +27,7 @@ fn choose(
 }
 
 // Fills the tables for picks in order, and reads back the choice at each aisle of a shortest tour.
+// Kept: (a) the request prescribes lent slices of u32 and u8 that are written together.
 pub fn best_choices(
     house: House,
     picks: &[Spot],

@@ -1,9 +1,8 @@
 // What the next aisle costs, by the effect of its use.
 ghost use Rattle.std.specs.Prelude.{◌≡◌};
-ghost use Rattle.aisle.specs.Values.{effect_of};
 ghost use Rattle.std.specs.Option.{option_map};
 ghost use Rattle.aisle.specs.Costs.{Effect as EffectOnEnds};
-ghost use Rattle.aisle.specs.Values.{reach_of};
+ghost use Rattle.aisle.specs.Values.{effect_of, reach_of};
 ghost use Rattle.partial.specs.Prices.{priced, price_from};
 
 use aisle::{Effect, Reach, cheapest};
@@ -15,10 +14,7 @@ pub(crate) struct Prices([u32; 6]);
 fn price(deep: u8, reach: Option<Reach>, effect: Effect) -> u32
     ensures { result ≡ price_from deep (option_map reach_of reach) (effect_of effect) }
 {
-    match cheapest(deep, reach, effect) {
-        Some(way) => way.cost(deep) as u32,
-        None => u32::MAX,
-    }
+    cheapest(deep, reach, effect).map_or(u32::MAX, |way| u32::from(way.cost(deep)))
 }
 
 impl Prices {

@@ -18,6 +18,7 @@ pub(crate) struct Stage {
     pub(crate) aisle: usize,
     pub(crate) apart: u8,
     pub(crate) prices: Prices,
+    ghost few: { aisle + 1 < 64 },
 }
 
 // The passages over which each class goes on.
@@ -44,7 +45,6 @@ const MOVES: [(Class, Passage); 17] = [
 impl Tables<'_> {
     // One way to go on is offered to the class that it leads to.
     fn go(&mut self, stage: Stage, choice: Choice)
-        requires { stage.aisle + 1 < 64 }
         ensures { Changed (go stage.apart (priced stage.prices) stage.aisle (class_of choice.class) (passage_of choice.passage) (effect_of choice.effect)) self.old self.new }
     {
         let Choice {
@@ -64,7 +64,6 @@ impl Tables<'_> {
 
     // One class goes on over given passages, with each effect of the next aisle's use.
     fn extend(&mut self, stage: Stage, class: Class, passage: Passage)
-        requires { stage.aisle + 1 < 64 }
         ensures { Changed (extend stage.apart (priced stage.prices) stage.aisle (class_of class) (passage_of passage)) self.old self.new }
     {
         for effect in Effect::ALL {
@@ -79,7 +78,6 @@ impl Tables<'_> {
 
     // The row of the next aisle: every class over all passages on which it goes on.
     pub(crate) fn next_row(&mut self, stage: Stage)
-        requires { stage.aisle + 1 < 64 }
         ensures { Changed (next_row stage.apart (priced stage.prices) stage.aisle) self.old self.new }
     {
         self.clear_row(stage.aisle + 1);

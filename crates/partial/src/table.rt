@@ -11,6 +11,7 @@ use classes::{Class, Passage};
 // Seven classes for each of 64 aisles.
 pub const CELLS: usize = 448;
 
+// Kept: (a) the request prescribes lent slices of u32 and u8 that are written together.
 #[derive(Drop)]
 pub(crate) struct Tables<'a> {
     pub(crate) lengths: &'a mut [u32; CELLS],

@@ -9,6 +9,7 @@ use crate::table::{CELLS, cell};
 use classes::Class;
 
 // The choice at each aisle of the plan that ends in a class of the last row.
+// Kept: (a) no heap: an array for the most aisles stands where a Vec would.
 pub(crate) fn trace(came: &[u8; CELLS], aisles: u8, end: Class) -> [Choice; 64]
     requires few { aisles ≤ 64 }
     requires choices { EachChoice aisles came.now }
