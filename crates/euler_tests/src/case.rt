@@ -5,7 +5,7 @@ use std::process::Abort;
 use std::test::Fail;
 use uses::layout::{back, front, lane, places};
 use uses::look;
-use walk::{Step, measure};
+use walk::{DESK, Step, measure};
 
 #[derive(Clone, Copy)]
 pub enum Stretch {
@@ -64,7 +64,7 @@ pub fn lay(house: House, stretches: &[Stretch], uses: &mut [u8]) {
 
 // Takes each step of a way from the uses, and says where it ends.
 fn used_up(rt: &impl Abort, house: House, way: &[u8], uses: &mut [u8]) -> Result<Spot, Fail> {
-    let mut at = Spot { aisle: 0, depth: 0 };
+    let mut at = DESK;
     for byte in way {
         let step = Step::try_from(*byte)?;
         let Some((entry, to)) = look(house, at, step) else {
@@ -97,7 +97,7 @@ fn check_tour(
     let (way, rest) = steps.split_at(walked.steps);
     assert_eq!(rt; measure(house, way), u128::from(walked.length));
     let end = used_up(rt, house, way, before)?;
-    assert_eq!(rt; (end.aisle, end.depth), (0, 0));
+    assert_eq!(rt; end, DESK);
     assert!(rt; rest.iter().all(|&byte| byte == 9));
     Ok(())
 }
