@@ -1,6 +1,6 @@
 // The picks of a list in order of aisle and then depth, in lent memory.
 use aisle::{part_end, sort_picks};
-use house::{Refusal, Spot, read};
+use house::{Memory, Refusal, Spot, read};
 
 // What the memory holds before anything is written to it: no house has such a spot.
 const OTHER: Spot = Spot {
@@ -113,6 +113,6 @@ fn ends_of_parts(rt: HostRuntime) {
 fn short_memory_is_refused(rt: HostRuntime) {
     let mut lent = [OTHER; 511];
     let sorted = sort_file(&[3, 10, 2, 1, 4], &mut lent);
-    assert_eq!(rt; sorted.map_err(|e| (e.number(), e.place())), Err((9, 0)));
+    assert_eq!(rt; sorted, Err(Refusal::Short(Memory::Picks)));
     assert_eq!(rt; lent, [OTHER; 511]);
 }
