@@ -83,7 +83,7 @@ fn lay_aisle(uses: &mut [u8], house: House, aisle: u8, choice: Choice, picks: &[
     ensures { Adds (house_of house) aisle (number_of choice) (depths_of (spots_of picks.now)) uses.old uses.new }
 {
     let way = cheapest_past(house.deep, picks, choice.effect);
-    paint(uses, aisle as usize * house.deep as usize, house.deep, way);
+    paint(uses, layout::lane(house, aisle, 0), house.deep, way);
     cross(uses, house, aisle, choice.passage);
 }
 

@@ -2,14 +2,13 @@
 ghost use Rattle.std.specs.Prelude.{◌≡◌, Some, None, MatchResult};
 ghost use Rattle.planner.specs.Planning.{held, memory_rule};
 
+use aisle::PICKS;
 use euler::STEPS;
 use house::{Memory, Refusal, Spot};
 use partial::CELLS;
 use uses::ROOM;
 
-// Picks of a list.
-pub const PICKS: usize = 512;
-
+// Kept: (a) the request prescribes lent slices of u32 and u8 that are written together.
 #[derive(Drop)]
 pub struct Lent<'a> {
     // the picks in order
