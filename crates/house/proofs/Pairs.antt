@@ -1,26 +1,9 @@
 -- The picks of a list, byte by byte: the pick at a place, and how many there are.
 -- Assumes nothing.
 use Rattle.std.proofs.Common.{◌≡◌, ℕ, zero, suc, ◌+◌, ◌*◌, ◌/◌, ◌<◌, ◌≤◌, List, [], ◌∷◌, length, get_or, drop, sym, refl, ap, ◌∙◌, add-zero, arith}
-use Rattle.std.proofs.lemmas.List.{drop_more, get_or-drop, length-drop}
+use Rattle.std.proofs.lemmas.List.{get_or-drop, length-drop}
 use Rattle.house.specs.House.{Spot, spot}
 use Rattle.house.specs.Bounds.{picks_of, pair_at}
-
-pub picks_more : (list : List ℕ) (i : ℕ) → i < length list / 2 → picks_of (drop (2 * i) list) ≡ pair_at list i ∷ picks_of (drop (2 * (i + 1)) list)
-picks_more list i h =
-    let first : 2 * i < length list = omega arith in
-    let second : 2 * i + 1 < length list = omega arith in
-    let next : 2 * i + 1 + 1 ≡ 2 * (i + 1) = omega arith in
-    ap picks_of (drop_more list (2 * i) 0 first ∙ ap (λ (r : List ℕ). get_or list (2 * i) 0 ∷ r) (drop_more list (2 * i + 1) 0 second))
-    ∙ ap (λ (k : ℕ). pair_at list i ∷ picks_of (drop k list)) next
-
--- no pick is left where at most one byte is
-pub picks_all : (list : List ℕ) (i : ℕ) → length list / 2 ≤ i → picks_of (drop (2 * i) list) ≡ []
-picks_all list i h = short (drop (2 * i) list) (simp length-drop (omega arith))
-  where
-    short : (xs : List ℕ) → length xs ≤ 1 → picks_of xs ≡ []
-    short [] l = refl
-    short (x ∷ []) l = refl
-    short (x ∷ y ∷ xs) l = absurd (omega arith)
 
 pub picks_count : (list : List ℕ) → length (picks_of list) ≡ length list / 2
 picks_count [] = refl

@@ -61,6 +61,7 @@ pub(crate) fn counted_list(file: &[u8]) -> Result<&[u8], Refusal>
 pub(crate) fn in_aisles(aisles: u8, list: &[u8]) -> Result<&[u8], Refusal>
     ensures { PassesOn list.now (aisle_rule aisles list.now) result }
 {
+    // Kept: (a) the request prescribes that a check hands on its value or returns its refusal by `let .. else`.
     let Some(pick) = first_absent(aisles, list) else {
         return Ok(list);
     };
@@ -70,6 +71,7 @@ pub(crate) fn in_aisles(aisles: u8, list: &[u8]) -> Result<&[u8], Refusal>
 pub(crate) fn on_shelves(deep: u8, list: &[u8]) -> Result<&[u8], Refusal>
     ensures { PassesOn list.now (shelf_rule deep list.now) result }
 {
+    // Kept: (a) the request prescribes that a check hands on its value or returns its refusal by `let .. else`.
     let Some(pick) = first_outside(deep, list) else {
         return Ok(list);
     };

@@ -7,6 +7,7 @@ ghost use Rattle.house.specs.Rules.{first_from, absent, outside};
 use crate::entries::picks_in;
 use crate::layout::Spot;
 
+// Kept: (d) one line each; one for both would take the test with its ghost.
 pub(crate) fn first_absent(aisles: u8, list: &[u8]) -> Option<usize>
     ensures { result ≡ first_from (absent aisles) 0 (picks_of list.now) }
 {
