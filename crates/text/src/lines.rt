@@ -32,6 +32,7 @@ fn piece_lines(heap: Global, way: &[u8]) -> Result<String, AllocError>
 }
 
 // The length of a way by its pieces; what follows the pieces may be long too.
+// Kept: (b) with `walk::measure` alone, a step at a time, plan takes 21% more instructions on bench/lists/full.list: 796,436 instead of 655,637.
 fn measure(house: House, way: &[u8]) -> u128
     ensures { result ≡ measure (house_of house) way.now }
 {

@@ -36,8 +36,7 @@ impl Iterator for Pieces<'_> {
 
     fn next(&mut self) -> Option<Piece> {
         let piece = first_piece(self.rest)?;
-        let (_, rest) = self.rest.split_at(piece.steps);
-        self.rest = rest;
+        self.rest = &self.rest[piece.steps..];
         Some(piece)
     }
 }
