@@ -10,7 +10,7 @@ use walk::Verdict;
 const HELP: &str = "check [FILE]    judge the way that FILE, or standard input, claims to be a tour
 check --help    print this";
 
-// Kept: (d) `plan` has this too; what comes from outside has no contract, which a library's function needs.
+// Kept: (a) `plan` has this too; a public function must pin its answer, and no contract can say what is read.
 fn input(rt: &HostRuntime, source: Source) -> io::Result<Vec<u8>> {
     match source {
         Source::File(path) => fs::read(rt, path),
@@ -22,26 +22,25 @@ fn input(rt: &HostRuntime, source: Source) -> io::Result<Vec<u8>> {
     }
 }
 
-// Whether the way is a tour.
-fn judge(rt: &HostRuntime, claimed: &[u8]) -> anyhow::Result<bool> {
-    match walk::check(claimed) {
-        Ok(verdict) => {
-            println!(rt; "{verdict}")?;
-            Ok(matches!(verdict, Verdict::Way(_)))
-        }
-        Err(refusal) => {
-            println!(rt; "{refusal}")?;
-            Ok(false)
-        }
+// Only a tour is a success.
+fn judge(rt: &HostRuntime, claimed: &[u8]) -> anyhow::Result<ExitCode> {
+    let judged = walk::check(claimed);
+    match judged {
+        Ok(verdict) => println!(rt; "{verdict}")?,
+        Err(refusal) => println!(rt; "{refusal}")?,
+    }
+    match judged {
+        Ok(Verdict::Way(_)) => Ok(ExitCode::SUCCESS),
+        Ok(_) | Err(_) => Ok(ExitCode::FAILURE),
     }
 }
 
-fn run(rt: &HostRuntime, command: CheckCommand) -> anyhow::Result<bool> {
+fn run(rt: &HostRuntime, command: CheckCommand) -> anyhow::Result<ExitCode> {
     match command {
         CheckCommand::Check(source) => judge(rt, &input(rt, source)?),
         CheckCommand::Help => {
             println!(rt; "{HELP}")?;
-            Ok(true)
+            Ok(ExitCode::SUCCESS)
         }
     }
 }
@@ -59,8 +58,7 @@ fn main(rt: HostRuntime) -> io::Result<ExitCode> {
         }
     };
     match run(&rt, command) {
-        Ok(true) => Ok(ExitCode::SUCCESS),
-        Ok(false) => Ok(ExitCode::FAILURE),
+        Ok(status) => Ok(status),
         Err(error) => {
             eprintln!(rt; "check: {error}")?;
             Ok(ExitCode::FAILURE)
