@@ -24,6 +24,7 @@ const INSIDE: [Step; 2] = [Step::Deeper, Step::Back];
 
 const AT_BACK: [Step; 3] = [Step::Back, Step::NextBack, Step::BeforeBack];
 
+// Kept: (d) one call with the list that was chosen would be no shorter, and its one copy would know none of the three.
 pub(crate) fn choose(from: Crossing<'_>) -> Option<Onward>
     ensures { Chooses (house_of from.entry.house) from.entry.entries.now (spot_of from.entry.at) result }
 {
@@ -37,6 +38,7 @@ pub(crate) fn choose(from: Crossing<'_>) -> Option<Onward>
 }
 
 // A copy for each list of steps knows them, and asks each step only what it needs.
+// Kept: (b) `find_map` takes twice the instructions of this loop: 121 and 104 million against 58 million.
 #[inline(always)]
 fn one_of(from: Crossing<'_>, steps: &[Step]) -> Option<Onward>
     ensures { Tries (house_of from.entry.house) from.entry.entries.now (spot_of from.entry.at) (map byte_of steps.now) result }
@@ -55,8 +57,5 @@ fn onto(from: Crossing<'_>, step: Step) -> Option<Onward>
     ensures { Tries (house_of from.entry.house) from.entry.entries.now (spot_of from.entry.at) (byte_of step ∷ []) result }
 {
     let (entry, to) = look(from.house, from.at, step)?;
-    if from.entries[entry] == 0 {
-        return None;
-    }
-    Some(Onward { step, entry, to })
+    (from.entries[entry] > 0).then_some(Onward { step, entry, to })
 }

@@ -37,6 +37,7 @@ pub(crate) fn close(
     }
 }
 
+// Kept: (a) uses in one lent slice and steps in another are prescribed; each is borrowed alone.
 // Keeps a copy of the uses, so that those which are not round are there again afterwards.
 fn settle(
     house: House,

@@ -40,7 +40,10 @@ impl Pass {
 
     // One step back: it goes from the stack to the tail, and the walk stands where it began.
     pub(crate) fn retreat(&mut self, steps: &mut [u8])
-        requires { (0 < self.old.top) × ((self.old.top ≤ self.old.tail) × ((self.old.tail ≤ length steps.old) × ((self.old.at.aisle < 255) × (self.old.at.depth < 255)))) }
+        requires some { 0 < self.old.top }
+        requires apart { self.old.top ≤ self.old.tail }
+        requires fits { self.old.tail ≤ length steps.old }
+        requires inside { (self.old.at.aisle < 255) × (self.old.at.depth < 255) }
         ensures is { self.new ≡ retreated self.old self.new.at }
         ensures from { spot_of self.new.at ≡ origin (spot_of self.old.at) (slice_index steps.old (self.old.top - 1)) }
         ensures written { steps.new ≡ slice_set steps.old (self.old.tail - 1) (slice_index steps.old (self.old.top - 1)) }

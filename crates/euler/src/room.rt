@@ -13,15 +13,15 @@ pub const STEPS: usize = 2 * ROOM;
 pub(crate) fn measure(house: House, uses: &[u8], room: usize) -> Result<Walked, Refusal>
     ensures { Measures (house_of house) uses.now room result }
 {
-    if room < STEPS {
+    let STEPS.. = room else {
         return Err(Refusal::Short(Memory::Steps));
-    }
+    };
     let uses = HouseUses::new(house, uses)?;
     let (in_aisles, in_passages) = (uses.in_aisles(), uses.in_passages());
     let steps = (in_aisles + in_passages) as usize;
-    if steps > STEPS {
+    let ..=STEPS = steps else {
         return Err(Refusal::Short(Memory::Steps));
-    }
+    };
     let length = in_aisles + house.apart as u32 * in_passages;
     Ok(Walked { steps, length })
 }

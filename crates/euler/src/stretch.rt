@@ -37,6 +37,7 @@ pub(crate) fn ahead(from: Crossing<'_>, onward: Onward, room: usize) -> Option<S
 }
 
 // On towards the back way.
+// Kept: (d) one of both directions would take a flag at each slice and sum.
 fn deeper(from: Crossing<'_>, room: usize) -> Stretch
     requires inside { from.at.depth < from.house.deep }
     requires used { 0 < slice_index from.entries.now (from.at.aisle * from.house.deep + from.at.depth) }
@@ -81,6 +82,7 @@ fn shallower(from: Crossing<'_>, room: usize) -> Stretch
 }
 
 // At how many places from the first on something is left over.
+// Kept: (d) one of both directions would take a flag at each slice and sum.
 fn used_first(left: &[u8]) -> usize
     ensures within { result ≤ length left.now }
     ensures used { (k : ℕ) → k < result → 0 < slice_index left.now k }
@@ -114,6 +116,7 @@ fn blocks_first(left: &[u8]) -> usize
 }
 
 // And at how many up to the last.
+// Kept: (d) one of both directions would take a flag at each slice and sum.
 fn used_last(left: &[u8]) -> usize
     ensures within { result ≤ length left.now }
     ensures used { (k : ℕ) → length left.now - result ≤ k → k < length left.now → 0 < slice_index left.now k }
@@ -143,7 +146,7 @@ fn all_used(block: &[u8]) -> bool
 {
     let mut all = true;
     for uses in block {
-        all = all & (*uses > 0);
+        all &= *uses > 0;
     }
     all
 }

@@ -14,6 +14,7 @@ use uses::Crossing;
 // Makes the first n steps those of a walk from the desk back to it with exactly these uses, n of them, if there is one.
 // The uses are written down on the way. Where nothing is left over at a spot, the last step of the stack moves to the tail,
 // so each step is written at most twice. Once stack and tail meet, nothing is left over.
+// Kept: (d) whether a tour has these uses is what the pass finds; it is an error only once `settle` has put them back.
 pub(crate) fn trace(house: House, left: &mut [u8], steps: &mut [u8], n: usize) -> bool
     requires places { places (house_of house) ≤ length left.old }
     requires total { n ≡ held left.old 0 (places (house_of house)) }

@@ -1,5 +1,5 @@
 // How often a way uses each stretch of the house, counted into a lent slice.
-ghost use Rattle.std.specs.Prelude.{◌≡◌, ℕ, ◌<◌, ◌≤◌, length, replicate, None, slice_index};
+ghost use Rattle.std.specs.Prelude.{◌≡◌, ◌<◌, length, replicate, None};
 ghost use Rattle.house.specs.Reading.{house_of, spot_of, PassesOn};
 ghost use Rattle.walk.specs.Checking.{exit_rule};
 ghost use Rattle.uses.specs.Counting.{count_rule, Adds, Tallies, Counts};
@@ -28,7 +28,7 @@ fn take_step(house: House, from: Spot, i: usize, byte: u8) -> Result<(usize, Spo
 }
 
 // Holds each step of a way to the house.
-fn stays_in<'a>(house: House, way: &'a [u8]) -> Result<&'a [u8], Refusal>
+fn stays_in(house: House, way: &[u8]) -> Result<&[u8], Refusal>
     ensures { PassesOn way.now (exit_rule (house_of house) way.now) result }
 {
     let mut at = DESK;
@@ -63,7 +63,7 @@ fn tally(house: House, way: &[u8], counts: &mut [u8]) -> Result<(), Miscount>
 }
 
 // The room comes before all else; then all steps are held to the six before any is held to the house.
-fn countable<'a>(house: House, way: &'a [u8], len: usize) -> Result<&'a [u8], Refusal>
+fn countable(house: House, way: &[u8], len: usize) -> Result<&[u8], Refusal>
     ensures { PassesOn way.now (count_rule (house_of house) way.now len) result }
 {
     enough(len)?;

@@ -6,7 +6,7 @@ ghost use Rattle.uses.specs.Layout.{places};
 
 use house::{House, Spot};
 
-#[derive(Clone, Copy)]
+#[derive(Clone, Copy, Debug, PartialEq, Eq)]
 pub struct Crossing<'a> {
     pub house: House,
     pub entries: &'a [u8],

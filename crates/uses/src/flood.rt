@@ -14,6 +14,7 @@ use walk::{Step, cell};
 
 #[derive(Drop)]
 pub(crate) struct Flood {
+    // Kept: (d) the flags are an array and one look; a type in walk for both would be three public functions for two lines.
     // a flag for each spot: 64 aisles, each with the depths from 0 to 200
     seen: [bool; 12864],
     // the spots that were seen and not left yet

@@ -5,7 +5,7 @@ ghost use Rattle.uses.specs.Layout.{places};
 
 use house::House;
 
-#[derive(Clone, Copy)]
+#[derive(Clone, Copy, Debug, PartialEq, Eq)]
 pub struct HouseUses<'a> {
     pub house: House,
     pub entries: &'a [u8],

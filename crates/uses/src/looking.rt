@@ -26,6 +26,7 @@ fn seen_entry(house: House, from: Spot, step: Step) -> usize
     entry(house, from, step)
 }
 
+// Kept: (d) one line for each step says what it goes along, as `landing` says where it leads.
 fn entry(house: House, from: Spot, step: Step) -> usize
     ensures { result ≡ place (house_of house) (edge_by (house_of house) (spot_of from) (byte_of step)) }
 {

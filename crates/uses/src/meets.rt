@@ -23,6 +23,7 @@ impl Crossing<'_> {
     pub(crate) fn meeting(self) -> u16
         ensures { result ≡ meeting (house_of self.entry.house) self.entry.entries.now (spot_of self.entry.at) }
     {
+        // Kept: (c) with `map` and `sum` over the six steps it stays open that the sum fits and that it is `meeting`.
         let mut uses = 0;
         for step in Step::ALL {
             uses += self.used(step);

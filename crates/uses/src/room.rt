@@ -12,11 +12,10 @@ pub const ROOM: usize = 12926;
 pub(crate) fn enough(len: usize) -> Result<usize, Refusal>
     ensures { HandsOn len (room_rule len) result }
 {
-    if len < ROOM {
-        Err(Refusal::Short(Memory::Uses))
-    } else {
-        Ok(len)
-    }
+    let ROOM.. = len else {
+        return Err(Refusal::Short(Memory::Uses));
+    };
+    Ok(len)
 }
 
 impl<'a> HouseUses<'a> {

@@ -24,6 +24,7 @@ fn is_fine(uses: HouseUses<'_>, flood: &Flood, at: Spot) -> bool
     n % 2 == 0 && (n == 0 || flood.has(at))
 }
 
+// Kept: (c) a range up to `deep + 1`, since over `0..=deep` what `all` tells stays open: no lemma of the library gives its items.
 fn is_fine_aisle(uses: HouseUses<'_>, flood: &Flood, aisle: u8) -> bool
     requires { aisle < uses.house.aisles }
     ensures { result ≡ fine_aisle (house_of uses.entry.house) uses.entry.entries.now flood.now.seen aisle }
@@ -43,7 +44,7 @@ fn are_seen(picks: PickList<'_>, flood: &Flood) -> bool
     picks.iter().all(|pick| flood.has(pick))
 }
 
-// By the spots that are linked with the desk.
+// What is used and the picks are held to the spots that are linked with the desk.
 fn are_fine(picks: PickList<'_>, uses: HouseUses<'_>, flood: &Flood) -> bool
     requires same { uses.house ≡ picks.house }
     requires linked { TellsLinked (house_of uses.house) uses.entries.now flood.now.seen }

@@ -3,8 +3,8 @@ use Rattle.house.specs.Reading.{house_of}
 use Rattle.euler.proofs.Total.{counted_both, walk_refused, walk_allowed, room_kept}
 use Rattle.euler.proofs.room.measure.Goals as goal
 
-pub returns-then-steps-gt-STEPS : goal.returns-then-steps-gt-STEPS
-returns-then-steps-gt-STEPS c =
+pub returns-in_default-steps : goal.returns-in_default-steps
+returns-in_default-steps c =
     let made = c.in_ok-uses.ensures in
     let count = (counted_both c.in_ok-uses.uses made.0 made.1 c.in_aisles-in_aisles.ensures.is c.in_passages-in_passages.ensures.is).0 in
     walk_refused (house_of c.args.house) c.args.uses.now c.args.room (omega arith) made.2 (omega (arith, count))
