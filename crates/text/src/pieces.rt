@@ -50,6 +50,7 @@ pub fn first_piece(way: &[u8]) -> Option<Piece>
 }
 
 // How many bytes at the front of a way are this one; whole blocks come first, which are compared without a branch for each byte.
+// Kept: (b) byte by byte alone, plan takes 15% more instructions on bench/lists/full.list: 754,948 instead of 655,637.
 fn run(way: &[u8], byte: u8) -> usize
     ensures { result ≡ prefix_len (λ x. byte == x) way.now }
 {
