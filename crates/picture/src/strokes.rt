@@ -4,7 +4,7 @@ ghost use Rattle.house.specs.House.{desk};
 ghost use Rattle.house.specs.Reading.{house_of, spot_of};
 ghost use Rattle.walk.specs.Codes.{byte_of};
 ghost use Rattle.walk.specs.Steps.{landing};
-ghost use Rattle.picture.specs.Strokes.{last_of, come_to, line_begun, line_ended, goes_on, turned, strokes};
+ghost use Rattle.picture.specs.Strokes.{last_of, come_to, line_begun, line_ended, turned, strokes};
 
 use crate::places::{Point, end, middle, start};
 use house::{House, Spot};

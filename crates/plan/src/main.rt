@@ -16,7 +16,7 @@ plan --steps [FILE]    write its steps instead, as check reads them
 plan --svg [FILE]      write a picture of it instead, in SVG
 plan --help            print this";
 
-// Kept: (d) `checker` has this too; what comes from outside has no contract, which a library's function needs.
+// Kept: (a) `checker` has this too; a public function must pin its answer, and no contract can say what is read.
 fn input(rt: &HostRuntime, source: Source) -> io::Result<Vec<u8>> {
     match source {
         Source::File(path) => fs::read(rt, path),
@@ -63,8 +63,8 @@ fn planned(file: &[u8], memory: &mut Lent<'_>) -> Result<(House, usize), Refusal
     Ok((house, walked.steps))
 }
 
-// Writes what is made of the tour, or tells why there is none; whether there was one.
-fn show<M, R>(rt: &HostRuntime, file: &[u8], make: M, refuse: R) -> anyhow::Result<bool>
+// Writes what is made of the tour, or tells why there is none.
+fn show<M, R>(rt: &HostRuntime, file: &[u8], make: M, refuse: R) -> anyhow::Result<ExitCode>
 where
     M: FnOnce(&Tour) -> Result<Vec<u8>, AllocError>,
     R: FnOnce(Refusal) -> io::Result<()>,
@@ -74,22 +74,22 @@ where
     match tour_of(rt.alloc(), file)? {
         Ok(tour) => {
             rt.stdout().write_all(&make(&tour)?)?;
-            Ok(true)
+            Ok(ExitCode::SUCCESS)
         }
         Err(refusal) => {
             refuse(refusal)?;
-            Ok(false)
+            Ok(ExitCode::FAILURE)
         }
     }
 }
 
 // Where the output is a file of its own sort, a refusal goes to standard error.
-fn run(rt: &HostRuntime, command: PlanCommand) -> anyhow::Result<bool> {
+fn run(rt: &HostRuntime, command: PlanCommand) -> anyhow::Result<ExitCode> {
     let heap = rt.alloc();
     match command {
         PlanCommand::Help => {
             println!(rt; "{HELP}")?;
-            Ok(true)
+            Ok(ExitCode::SUCCESS)
         }
         PlanCommand::Lines(source) => show(
             rt,
@@ -130,8 +130,7 @@ fn main(rt: HostRuntime) -> io::Result<ExitCode> {
         }
     };
     match run(&rt, command) {
-        Ok(true) => Ok(ExitCode::SUCCESS),
-        Ok(false) => Ok(ExitCode::FAILURE),
+        Ok(status) => Ok(status),
         Err(error) => {
             eprintln!(rt; "plan: {error}")?;
             Ok(ExitCode::FAILURE)
