@@ -1,10 +1,10 @@
 // Plans each list that is named, and has the checker judge the steps of its tour: a line for each, with the length and the verdict.
 #![tactic(auto)]
 
-use house::Spot;
 use planner::{CELLS, Lent, PICKS, STEPS, USES, plan};
 use std::{env, fs};
 use text::claim;
+use walk::DESK;
 
 fn main(rt: HostRuntime) -> anyhow::Result<()> {
     for name in env::args(&rt)?.skip(1) {
@@ -16,8 +16,8 @@ fn main(rt: HostRuntime) -> anyhow::Result<()> {
 fn plan_case(rt: &HostRuntime, name: &str) -> anyhow::Result<()> {
     let heap = rt.alloc();
     let file = fs::read(rt, name)?;
-    // Kept: (d) `plan` lends memory so too; a function that lent it would have to own what it hands out slices of.
-    let mut picks = vec![in heap; Spot { aisle: 0, depth: 0 }; PICKS]?;
+    // Kept: (a) `plan` lends memory so too; no library that plans uses the heap, and a public function must pin its answer.
+    let mut picks = vec![in heap; DESK; PICKS]?;
     let mut lengths = vec![in heap; 0u32; CELLS]?;
     let mut came = vec![in heap; 0u8; CELLS]?;
     let mut steps = vec![in heap; 0u8; STEPS]?;
