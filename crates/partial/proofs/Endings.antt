@@ -1,7 +1,6 @@
 -- The class that is taken for the end is one of whole tours, and no other such class is shorter. Assumes nothing.
-use Rattle.std.proofs.Common.{◌≡◌, ℕ, ◌+◌, ◌<◌, ◌≤◌, true, List, [], ◌∷◌, length, get_or, take, fold, sym, refl, ap, ◌∙◌, arith, le-ltb, lt-ltb}
-use Rattle.std.proofs.lemmas.List.{take_all}
-use Rattle.std.proofs.lemmas.List.Sums.{fold_more}
+use Rattle.std.proofs.Common.{◌≡◌, ℕ, ◌≤◌, true, List, [], ◌∷◌, fold, ◌++◌, sym, refl, ap, ◌∙◌, arith, le-ltb, lt-ltb}
+use Rattle.std.proofs.lemmas.List.Sums.{fold-append}
 use native.Mathlib.Decide.{dec_lt}
 use Rattle.classes.specs.Classes.{Class, odd_odd, even_back, even_front, even_one, even_two, nothing_yet, closed, closes}
 use Rattle.classes.specs.Values.{class_of}
@@ -44,17 +43,19 @@ module _ (lengths : List ℕ) (a : ℕ) where
   unfolding ending
   ending_ends = chain _ _ _ _ (taken _ _) (taken _ _) (taken _ _) (taken _ _)
 
-  -- the shortest of a closed tour and the first k of the others
-  abbrev pub shortest : ℕ → Class
-  shortest k = fold (λ c d. shorter lengths a c (class_of d)) closed (take k whole_tours)
+  -- the shortest of a closed tour and the others so far
+  abbrev pub shortest : List code.Class → Class
+  shortest ds = fold (λ c d. shorter lengths a c (class_of d)) closed ds
 
-  pub shortest_more :
-      (k : ℕ) (d : code.Class) (c r : Class) → k < length whole_tours → c ≡ shortest k → r ≡ shorter lengths a c (class_of (get_or whole_tours k d)) → r ≡ shortest (k + 1)
-  shortest_more k d c r l so_far taken =
-      taken ∙ ap (λ (x : Class). shorter lengths a x (class_of (get_or whole_tours k d))) so_far
-      ∙ sym (fold_more (λ x y. shorter lengths a x (class_of y)) closed whole_tours k d l)
+  -- a class that stands for it
+  abbrev pub Best : List code.Class → code.Class → Type 0
+  Best ds r = class_of r ≡ shortest ds
 
-  pub shortest_of_all : (k : ℕ) (c : Class) → length whole_tours ≤ k → c ≡ shortest k → c ≡ ending lengths a
+  pub shortest_more : (ds : List code.Class) (d : code.Class) (c r : Class) → c ≡ shortest ds → r ≡ shorter lengths a c (class_of d) → r ≡ shortest (ds ++ d ∷ [])
+  shortest_more ds d c r so_far taken =
+      taken ∙ ap (λ (x : Class). shorter lengths a x (class_of d)) so_far
+      ∙ sym (fold-append (λ x y. shorter lengths a x (class_of y)) closed ds (d ∷ []))
+
+  pub shortest_of_all : (c : Class) → c ≡ shortest whole_tours → c ≡ ending lengths a
   unfolding ending
-  shortest_of_all k c l so_far =
-      so_far ∙ ap (λ (ds : List code.Class). fold (λ x y. shorter lengths a x (class_of y)) closed ds) (take_all k whole_tours l)
+  shortest_of_all c e = e

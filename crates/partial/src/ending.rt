@@ -26,14 +26,14 @@ pub(crate) fn ending(lengths: &[u32; CELLS], aisle: usize) -> Class
     ensures ends { Ends lengths.now aisle (class_of result) }
     ensures chosen { class_of result ≡ ending lengths.now aisle }
 {
-    let mut class = Class::Closed;
-    for other in [
+    [
         Class::EvenFront,
         Class::EvenOne,
         Class::EvenBack,
         Class::NothingYet,
-    ] {
-        class = shorter(lengths, aisle, class, other);
-    }
-    class
+    ]
+    .iter()
+    .fold(Class::Closed, |first, second| {
+        shorter(lengths, aisle, first, *second)
+    })
 }

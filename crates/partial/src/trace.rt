@@ -18,6 +18,7 @@ pub(crate) fn trace(came: &[u8; CELLS], aisles: u8, end: Class) -> [Choice; 64]
 {
     let mut choices = [Choice::from(0); 64];
     let mut class = end;
+    // Kept: (d) the index tells the cell of `came` too, so that `iter_mut().enumerate().rev()` would still hand it out.
     for aisle in (0..aisles as usize).rev() {
         let choice = Choice::from(came[cell(aisle, class)]);
         choices[aisle] = choice;
