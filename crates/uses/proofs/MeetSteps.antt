@@ -1,25 +1,31 @@
 -- The uses that meet at a spot are those in the six directions from it. Assumes nothing.
-use Rattle.std.proofs.Common.{◌≡◌, ℕ, zero, suc, ◌+◌, ◌-◌, Bool, true, false, cond, ◌&&◌, eqb, ltb, List, get_or, Some, None, sym, refl, ap, ◌∙◌, arith}
+use Rattle.std.proofs.Common.{◌≡◌, ℕ, zero, suc, ◌+◌, ◌-◌, Bool, true, false, cond, ◌&&◌, eqb, ltb, List, get_or, Option, Some, None, sym, refl, ap, ◌∙◌, arith}
+use Rattle.std.specs.Option.{option_map_or}
 use Rattle.house.specs.House.{House, Spot, spot}
+use Rattle.house.specs.declared.layout.Spot as code
 use Rattle.walk.specs.Steps.{landing}
 use Rattle.uses.specs.Layout.{held_in, uses_in}
-use Rattle.uses.specs.Looking.{edge_by, Sees}
+use Rattle.uses.specs.Looking.{edge_by, Sees, Looks}
 use Rattle.uses.specs.Rounding.{used_at, meeting}
 use Rattle.uses.specs.Uses.{Uses, pick, below, beside, meet}
 use Rattle.uses.proofs.Picks.{pick_lt}
 
 module _ (h : House) (us : List ℕ) (s : Spot) (b : ℕ) where
-  pub used_out : landing h s b ≡ None → used_at h us s b ≡ 0
+  used_out : landing h s b ≡ None → used_at h us s b ≡ 0
   unfolding used_at
   used_out l = rw (l, used_at)
 
-  pub used_to : {t : Spot} → landing h s b ≡ Some t → used_at h us s b ≡ held_in h us (edge_by h s b)
+  used_to : {t : Spot} → landing h s b ≡ Some t → used_at h us s b ≡ held_in h us (edge_by h s b)
   unfolding used_at
   used_to l = rw (l, used_at)
 
   -- as the code reads it
-  pub used_seen : {entry : ℕ} {t : Spot} → Sees h s b entry t → used_at h us s b ≡ get_or us entry 0
+  used_seen : {entry : ℕ} {t : Spot} → Sees h s b entry t → used_at h us s b ≡ get_or us entry 0
   used_seen seen = used_to seen.leads ∙ ap (λ (n : ℕ). get_or us n 0) (sym seen.entry_is)
+
+  pub used_looked : (r : Option (ℕ × code.Spot)) → Looks h s b r → option_map_or (λ p. get_or us p.0 0) r 0 ≡ used_at h us s b
+  used_looked None out = sym (used_out out)
+  used_looked (Some p) seen = sym (used_seen seen)
 
 -- the use in a direction that is open under a test
 use_if : (c : Bool) (t : Spot) (n : ℕ) → elim (cond c (Some t) None) [ Some u ↦ n | None ↦ 0 ] ≡ pick c n 0

@@ -2,7 +2,6 @@
 ghost use Rattle.house.specs.Reading.{house_of};
 ghost use Rattle.uses.specs.Flood.{TellsLinked};
 
-use crate::crossing::Crossing;
 use crate::flood::Flood;
 use crate::house_uses::HouseUses;
 use walk::DESK;
@@ -11,11 +10,10 @@ use walk::DESK;
 pub(crate) fn flood(uses: HouseUses<'_>) -> Flood
     ensures { TellsLinked (house_of uses.entry.house) uses.entry.entries.now result.seen }
 {
-    let HouseUses { house, entries } = uses;
     let mut flood = Flood::new();
     flood.offer(1, DESK);
     while let Some(at) = flood.pop() {
-        flood.leave(Crossing { house, entries, at });
+        flood.leave(uses.at(at));
     }
     flood
 }

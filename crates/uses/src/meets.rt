@@ -14,10 +14,7 @@ impl Crossing<'_> {
         ensures is { result ≡ used_at (house_of self.entry.house) self.entry.entries.now (spot_of self.entry.at) (byte_of step) }
         ensures small { result ≤ 255 }
     {
-        let Some((entry, _)) = look(self.house, self.at, step) else {
-            return 0;
-        };
-        self.entries[entry] as u16
+        look(self.house, self.at, step).map_or(0, |(entry, _)| u16::from(self.entries[entry]))
     }
 
     pub(crate) fn meeting(self) -> u16

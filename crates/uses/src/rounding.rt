@@ -8,7 +8,6 @@ ghost use Rattle.uses.specs.Layout.{uses_in};
 ghost use Rattle.uses.specs.Rounding.{fine, fine_aisle, fine_house, PicksSeen, TellsRound};
 ghost use Rattle.uses.specs.Uses.{Round};
 
-use crate::crossing::Crossing;
 use crate::flood::Flood;
 use crate::flooding::flood;
 use crate::house_uses::HouseUses;
@@ -19,8 +18,7 @@ fn is_fine(uses: HouseUses<'_>, flood: &Flood, at: Spot) -> bool
     requires { Within (house_of uses.house) (spot_of at) }
     ensures { result ≡ fine (house_of uses.entry.house) uses.entry.entries.now flood.now.seen (spot_of at) }
 {
-    let HouseUses { house, entries } = uses;
-    let n = Crossing { house, entries, at }.meeting();
+    let n = uses.at(at).meeting();
     n % 2 == 0 && (n == 0 || flood.has(at))
 }
 

@@ -8,14 +8,18 @@ pub loop-at-init : goal.loop-at-init
 loop-at-init c =
     flood_start _ _ (omega arith) (omega arith) (omega arith) (c.offer.ensures ∙ ap (λ (f : Flooding). offered 1 (code_of desk) f) c.new-flood.ensures)
 
-pub invariant_of-leave-clause-inside : goal.invariant_of-leave-clause-inside
-invariant_of-leave-clause-inside c = flood_within _ _ (omega arith) (omega arith) _ _ c.loop-at.invariant c.in-Some.ensures
+pub at-requires : goal.at-requires
+at-requires c = flood_within _ _ (omega arith) (omega arith) _ _ c.loop-at.invariant c.in-Some.ensures
 
 pub loop-at-preserved : goal.loop-at-preserved
-loop-at-preserved c = flood_more _ _ (omega arith) (omega arith) _ _ c.loop-at.invariant c.in-Some.ensures c.leave.ensures
+loop-at-preserved c =
+    let at = c.at.ensures in
+    flood_more _ _ (omega arith) (omega arith) _ _ c.loop-at.invariant c.in-Some.ensures (grind (arith, at.house, at.entries, at.at, c.leave.ensures))
 
 pub loop-at-smaller : goal.loop-at-smaller
-loop-at-smaller c = flood_less _ _ (omega arith) (omega arith) _ _ c.loop-at.invariant c.in-Some.ensures c.leave.ensures
+loop-at-smaller c =
+    let at = c.at.ensures in
+    flood_less _ _ (omega arith) (omega arith) _ _ c.loop-at.invariant c.in-Some.ensures (grind (arith, at.house, at.entries, at.at, c.leave.ensures))
 
 pub returns : goal.returns
 returns c = flood_end _ _ (omega arith) (omega arith) (omega arith) c.loop-at.invariant c.in_default.ensures

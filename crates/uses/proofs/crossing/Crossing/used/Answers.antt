@@ -1,12 +1,12 @@
-use Rattle.std.proofs.Common.{sym, arith, rules}
-use Rattle.uses.proofs.MeetSteps.{used_out, used_seen}
+use Rattle.std.proofs.Common.{◌≡◌, ◌∙◌, get_or, rules}
+use Rattle.std.specs.Option.{option_map_or}
+use Rattle.house.specs.Reading.{house_of, spot_of}
+use Rattle.walk.specs.Codes.{byte_of}
+use Rattle.uses.proofs.MeetSteps.{used_looked}
 use Rattle.uses.proofs.crossing.Crossing.used.Goals as goal
 
-pub returns-in_default : goal.returns-in_default
-returns-in_default c = record { is = sym (used_out _ _ _ _ c.in_default.ensures); small = omega arith }
-
-pub bounds-self-entry : goal.bounds-self-entry
-bounds-self-entry c = omega (arith, (c.in-Some.ensures.stays c.args.self.inside).0, c.args.self.room)
-
-pub returns : goal.returns
-returns c = record { is = sym (used_seen _ _ _ _ c.in-Some.ensures); small = search rules }
+pub returns-clause-is : goal.returns-clause-is
+returns-clause-is c =
+    let a = c.args.self in
+    let is : c.map_or.result ≡ option_map_or (λ p. get_or a.entries.now p.0 0) c.look.result 0 = search rules in
+    is ∙ used_looked (house_of a.house) a.entries.now (spot_of a.at) (byte_of c.args.step) c.look.result c.look.ensures
