@@ -37,8 +37,20 @@ lent picks lengths came steps uses = record { picks = picks; lengths = lengths; 
 abbrev pub held : code.Lent → Lent
 held m = lent m.picks.now m.lengths.now m.came.now m.steps.now m.uses.now
 
--- the same slices are lent
+-- how many entries each memory has
+pub record Room : Type 0 where
+  pub picks : ℕ
+  pub lengths : ℕ
+  pub came : ℕ
+  pub steps : ℕ
+  pub uses : ℕ
+
+abbrev pub room_of : Lent → Room
+room_of l = record { picks = length l.picks; lengths = length l.lengths; came = length l.came; steps = length l.steps; uses = length l.uses }
+
+-- the same slices are lent, with as many entries
 pub record SameSlices (was is : code.Lent) : Type 0 where
+  pub room : room_of (held is) ≡ room_of (held was)
   pub picks : is.picks.ghost_name ≡ was.picks.ghost_name
   pub lengths : is.lengths.ghost_name ≡ was.lengths.ghost_name
   pub came : is.came.ghost_name ≡ was.came.ghost_name
