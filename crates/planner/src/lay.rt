@@ -42,6 +42,7 @@ fn step_uses(way: Option<AisleUse>, depth: u8) -> u8
 }
 
 // The uses of an aisle, whose entries begin at `start`, in runs of one value: but for a gap all steps are used alike.
+// Kept: (c) over the part `&mut uses[start..start + deep]` alone `returns` stays open in `paint_gap` and in `lay_aisle`.
 fn paint(uses: &mut [u8], start: usize, deep: u8, way: Option<AisleUse>)
     requires { start + deep ≤ length uses.old }
     ensures { Painted start deep (option_map use_of way) uses.old uses.new }
