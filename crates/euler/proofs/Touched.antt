@@ -1,12 +1,13 @@
 -- A way on from a spot shows that a use meets it; and uses that are round for a list touch all its picks. Assumes nothing.
-use Rattle.std.proofs.Common.{◌≡◌, ℕ, ◌<◌, true, false, ltb, ◌⊎◌, List, [], ◌∷◌, ◌++◌, Ok, Err, Result, Option, Some, None, length, get_or, ap, subst, inl, inr, arith}
+use Rattle.std.proofs.Common.{◌≡◌, ℕ, ◌<◌, true, false, Bool, ltb, ◌⊎◌, List, [], Ok, Err, Result, Option, Some, None, length, get_or, refl, ap, subst, inl, inr, arith}
 use Rattle.std.proofs.lemmas.Iterator.{YieldsList}
-use Rattle.std.proofs.lemmas.Iterator.Consumers.{YieldsList-from_first, YieldsList-turn, YieldsList-end}
-use Rattle.std.proofs.lemmas.List.{get_or_default, get_or_read, length_push}
-use Rattle.std.specs.Iterator.{Yields, YieldsFirstBy}
+use Rattle.std.proofs.lemmas.Iterator.Consumers.{YieldsList-from_first}
+use Rattle.std.proofs.lemmas.List.{get_or_default}
+use Rattle.std.specs.Iterator.{YieldsFirstBy}
+use Rattle.std.specs.Bool.{MatchBool}
+use Rattle.std.specs.List.{AllWithin, HoldsAt}
 use Rattle.std.proofs.lemmas.Bool.Decides.{nat_tests}
 use Rattle.std.specs.Option.{is_some}
-use native.Mathlib.Decide.{dec_lt}
 use Rattle.graph.specs.Graph.{Linked}
 use Rattle.graph.proofs.Links.{touched_end}
 use Rattle.graph.proofs.Sums.{degree_at_start}
@@ -14,7 +15,6 @@ use Rattle.house.specs.House.{House, Spot, desk}
 use Rattle.house.specs.Bounds.{picks_of}
 use Rattle.house.specs.Reading.{spot_of}
 use Rattle.house.specs.declared.entries.Picks.{Picks}
-use Rattle.house.specs.declared.layout.Spot as code
 use Rattle.walk.specs.Steps.{Within}
 use Rattle.uses.specs.Edges.{degree, house_graph}
 use Rattle.uses.specs.Layout.{held_in, uses_in}
@@ -23,7 +23,7 @@ use Rattle.uses.specs.Uses.{Round}
 use Rattle.uses.proofs.Laws.{house_laws}
 use Rattle.uses.proofs.Taken.{joins_of_landing}
 use Rattle.euler.specs.Choosing.{Opens, Shut, Chooses}
-use Rattle.euler.specs.Touching.{degree_at, Misses, Touches}
+use Rattle.euler.specs.Touching.{Misses, Touches}
 use Rattle.euler.specs.Walking.{WalksUses, WalksRound}
 use Rattle.euler.specs.declared.answer.Unwalked.{Unwalked}
 use Rattle.euler.specs.declared.answer.Unwalked.TheVariants.{Refused, NotRound}
@@ -32,20 +32,9 @@ use Rattle.euler.specs.declared.choice.Onward.{Onward}
 use Rattle.euler.proofs.Rounded.{round_eulerian, round_picked, eulerian_round, round_for_none}
 use Rattle.euler.proofs.Stuck.{stuck_degree}
 
--- going through the picks of a list: where a pick stands in it, and that all were gone through
-module _ (s t u : Picks) {list : List ℕ} (xs : List code.Spot) (r : Option code.Spot) (begins : s.bytes.now ≡ list)
-    (gone : Yields (YieldsFirstBy spot_of (λ (i : Picks). picks_of i.bytes.now)) s xs t) (next : YieldsFirstBy spot_of (λ (i : Picks). picks_of i.bytes.now) t r u) where
-  road : YieldsList (YieldsFirstBy spot_of (λ (i : Picks). picks_of i.bytes.now)) spot_of s (picks_of list)
-  road = YieldsList-from_first spot_of (λ (i : Picks). picks_of i.bytes.now) (picks_of list) (ap picks_of begins)
-
-  pub pick_there : {at : code.Spot} → r ≡ Some at → length xs < length (picks_of list)
-  pick_there {at} is = (YieldsList-turn road xs t gone r u at is next).0
-
-  pub pick_is : {at : code.Spot} → r ≡ Some at → spot_of at ≡ get_or (picks_of list) (length xs) desk
-  pick_is {at} is = let turn = YieldsList-turn road xs t gone r u at is next in get_or_read (picks_of list) (length xs) (spot_of at) turn.0 turn.1 desk
-
-  pub picks_gone : r ≡ None → length xs ≡ length (picks_of list)
-  picks_gone is = (YieldsList-end road xs t gone r u is next).1
+-- the picks of a list, as they come one by one
+pub road : (s : Picks) {list : List ℕ} → s.bytes.now ≡ list → YieldsList (YieldsFirstBy spot_of (λ (i : Picks). picks_of i.bytes.now)) spot_of s (picks_of list)
+road s {list} begins = YieldsList-from_first spot_of (λ (i : Picks). picks_of i.bytes.now) (picks_of list) (ap picks_of begins)
 
 positive : (n : ℕ) → 0 < n → true ≡ ltb 0 n
 positive n l = grind (arith, nat_tests)
@@ -68,24 +57,23 @@ module _ (h : House) (us : List ℕ) where
   chosen_touches s (Some o) inside opens = opens_touch inside opens
   chosen_touches s None inside shut = shut_misses s shut
 
-  -- a use touches one pick more
-  pub touches_more :
-      (picks : List Spot) (xs : List code.Spot) (at : code.Spot) → spot_of at ≡ get_or picks (length xs) desk → true ≡ ltb 0 (degree h (held_in h us) (spot_of at)) →
-      ((k : ℕ) → k < length xs → 0 < degree_at h picks us k) → (k : ℕ) → k < length (xs ++ at ∷ []) → 0 < degree_at h picks us k
-  touches_more picks xs at is touched before k l =
-      elim (dec_lt k (length xs)) [
-        | yes m ↦ before k m
-        | no m ↦
-            let last : k ≡ length xs = omega (arith, length_push xs at) in
-            let some : 0 < degree h (held_in h us) (spot_of at) = grind (arith, nat_tests) in
-            omega (arith, ap (λ (p : Spot). degree h (held_in h us) p) is, ap (λ (j : ℕ). degree_at h picks us j) last)
-      ]
-
-  pub untouched_misses :
+  untouched_misses :
       (picks : List Spot) (n : ℕ) {p : Spot} → n < length picks → p ≡ get_or picks n desk → false ≡ ltb 0 (degree h (held_in h us) p) → Misses h picks us
   untouched_misses picks n {p} there is not =
       let none : degree h (held_in h us) p ≡ 0 = grind (arith, nat_tests) in
       record { pick = n; there = there; untouched = omega (arith, ap (λ (q : Spot). degree h (held_in h us) q) is) }
+
+  -- a test of each pick tells whether uses touch them all
+  pub touches_tells :
+      (picks : List Spot) (r : Bool) →
+      MatchBool r (AllWithin (λ (s : Spot). true ≡ ltb 0 (degree h (held_in h us) s)) picks 0 (length picks))
+      ((k : ℕ) × (k < length picks) × HoldsAt (λ (s : Spot). false ≡ ltb 0 (degree h (held_in h us) s)) picks k) → Touches h picks us r
+  touches_tells picks true all =
+      λ i l.
+      let touched = all i desk (omega arith) l in
+      let some : 0 < degree h (held_in h us) (get_or picks i desk) = grind (arith, nat_tests) in
+      some
+  touches_tells picks false (k, there, not) = untouched_misses picks k there refl (not desk)
 
   module _ {picks : List Spot} where
     -- round uses link every spot that they touch with the desk

@@ -5,5 +5,5 @@ use Rattle.euler.proofs.touching.touched.Goals as goal
 
 pub returns : goal.returns
 returns c =
-    let at = c.args.at in
-    c.is_some.ensures ∙ chosen_touches (house_of at.house) at.entries.now (spot_of at.at) c.choose.result at.inside c.choose.ensures
+    let uses = c.args.uses in
+    c.is_some.ensures ∙ chosen_touches (house_of uses.house) uses.entries.now (spot_of c.args.at) c.choose.result c.requires c.choose.ensures
