@@ -3,7 +3,6 @@ ghost use Rattle.std.specs.Prelude.{◌≡◌, ◌<◌, length, replicate, None}
 ghost use Rattle.house.specs.Reading.{house_of, spot_of, PassesOn};
 ghost use Rattle.walk.specs.Checking.{exit_rule};
 ghost use Rattle.uses.specs.Counting.{count_rule, Adds, Tallies, Counts};
-ghost use Rattle.uses.specs.Layout.{places};
 ghost use Rattle.uses.specs.Looking.{Looks, TakesStep};
 
 use crate::layout::places;
