@@ -17,14 +17,10 @@ fn over_both(class: Class, effect: Effect) -> Option<Class>
             Effect::ThroughOnce => Some(Class::OddOdd),
             _ => Some(Class::EvenOne),
         },
-        // Kept: (c) with the four equal arms joined `returns-in-Nothing` stays open.
         Class::EvenBack | Class::EvenFront | Class::EvenTwo | Class::NothingYet => match effect {
-            Effect::Nothing => Some(Class::EvenTwo),
-            Effect::FromFront => Some(Class::EvenTwo),
-            Effect::FromBack => Some(Class::EvenTwo),
-            Effect::BothEnds => Some(Class::EvenTwo),
             Effect::ThroughOnce => Some(Class::OddOdd),
             Effect::ThroughTwice => Some(Class::EvenOne),
+            _ => Some(Class::EvenTwo),
         },
         Class::OddOdd | Class::Closed => None,
     }
