@@ -116,7 +116,6 @@ fn blocks_first(left: &[u8]) -> usize
 }
 
 // And at how many up to the last.
-// Kept: (d) one of both directions would take a flag at each slice and sum.
 fn used_last(left: &[u8]) -> usize
     ensures within { result ≤ length left.now }
     ensures used { (k : ℕ) → length left.now - result ≤ k → k < length left.now → 0 < slice_index left.now k }
@@ -130,6 +129,7 @@ fn used_last(left: &[u8]) -> usize
     left.len() - start
 }
 
+// Kept: (d) one of both directions would take a flag at each slice and sum.
 fn blocks_last(left: &[u8]) -> usize
     ensures within { result ≤ length left.now }
     ensures used { (k : ℕ) → length left.now - result ≤ k → k < length left.now → 0 < slice_index left.now k }
