@@ -19,6 +19,7 @@ at_both c Effect.BothEnds n f b o p q = o
 at_both c Effect.ThroughOnce n f b o p q = absurd (p refl)
 at_both c Effect.ThroughTwice n f b o p q = absurd (q refl)
 
+-- each of the four classes is one
 in_two : (c : code.Class) (e : Effect) → (c ≡ EvenBack) ⊎ ((c ≡ EvenFront) ⊎ ((c ≡ EvenTwo) ⊎ (c ≡ NothingYet)))
     → (e ≡ Effect.ThroughOnce → ⊥) → (e ≡ Effect.ThroughTwice → ⊥) → Some even_two ≡ transition (class_of c) two_each (effect_of e)
 in_two c e (inl s) p q = rw s (at_both even_back e refl refl refl refl p q)
