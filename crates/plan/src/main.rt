@@ -35,8 +35,28 @@ struct Tour {
     steps: Vec<u8>,
 }
 
-// The tour, or why the file is refused.
-fn tour_of(heap: Global, file: &[u8]) -> Result<Result<Tour, Refusal>, AllocError> {
+// Why there is no tour.
+#[derive(Drop)]
+enum NoTour {
+    Refused(Refusal),
+    OutOfMemory(AllocError),
+}
+
+impl From<Refusal> for NoTour {
+    fn from(refusal: Refusal) -> NoTour {
+        NoTour::Refused(refusal)
+    }
+}
+
+impl From<AllocError> for NoTour {
+    fn from(error: AllocError) -> NoTour {
+        NoTour::OutOfMemory(error)
+    }
+}
+
+// The file is held to its rules before memory is asked for.
+fn tour_of(heap: Global, file: &[u8]) -> Result<Tour, NoTour> {
+    let house = house::read(file)?.house;
     let mut picks = vec![in heap; Spot { aisle: 0, depth: 0 }; PICKS]?;
     let mut lengths = vec![in heap; 0u32; CELLS]?;
     let mut came = vec![in heap; 0u8; CELLS]?;
@@ -49,18 +69,9 @@ fn tour_of(heap: Global, file: &[u8]) -> Result<Result<Tour, Refusal>, AllocErro
         steps: &mut steps,
         uses: &mut uses,
     };
-    let planned = planned(file, &mut memory);
-    Ok(planned.map(|(house, count)| {
-        steps.truncate(count);
-        Tour { house, steps }
-    }))
-}
-
-// The house of a file, and how many steps of a shortest tour the memory has then.
-fn planned(file: &[u8], memory: &mut Lent<'_>) -> Result<(House, usize), Refusal> {
-    let house = house::read(file)?.house;
-    let walked = plan(file, memory)?;
-    Ok((house, walked.steps))
+    let walked = plan(file, &mut memory)?;
+    steps.truncate(walked.steps);
+    Ok(Tour { house, steps })
 }
 
 // Writes what is made of the tour, or tells why there is none.
@@ -71,15 +82,16 @@ where
     requires makes { M.IsAlwaysCallable make }
     requires refuses { R.IsAlwaysCallable refuse }
 {
-    match tour_of(rt.alloc(), file)? {
+    match tour_of(rt.alloc(), file) {
         Ok(tour) => {
             rt.stdout().write_all(&make(&tour)?)?;
             Ok(ExitCode::SUCCESS)
         }
-        Err(refusal) => {
+        Err(NoTour::Refused(refusal)) => {
             refuse(refusal)?;
             Ok(ExitCode::FAILURE)
         }
+        Err(NoTour::OutOfMemory(error)) => Err(error.into()),
     }
 }
 
