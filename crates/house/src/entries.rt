@@ -1,8 +1,8 @@
 // The picks of a list, one after the other or by their place.
 ghost use Rattle.std.specs.Prelude.{◌≡◌, ◌/◌, length};
-ghost use Rattle.std.specs.Iterator.{YieldsFirstBy, item_count};
+ghost use Rattle.std.specs.Iterator.{item_count};
 ghost use Rattle.house.specs.Bounds.{picks_of};
-ghost use Rattle.house.specs.Reading.{spot_of, Gets};
+ghost use Rattle.house.specs.Reading.{Gets, TakesPick};
 
 use crate::layout::Spot;
 use crate::parts::after;
@@ -61,7 +61,7 @@ impl<'a> IntoIterator for PickList<'a> {
 impl<'a> Iterator for Picks<'a> {
     type Item = Spot;
 
-    ghost next_gives = { YieldsFirstBy spot_of (λ s. picks_of s.bytes.now) };
+    ghost next_gives = { TakesPick };
 
     ghost remaining = { item_count (λ s. picks_of s.bytes.now) };
 
