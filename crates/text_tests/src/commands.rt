@@ -98,7 +98,11 @@ fn commands(rt: HostRuntime) {
             args.get(1).copied(),
             args.get(2).copied(),
         );
-        assert_eq!(rt; plan_asked(one_by_one), (*want, *name), "plan {args:?}, one by one");
+        assert_eq!(rt;
+            plan_asked(one_by_one),
+            (*want, *name),
+            "plan {args:?}, one by one"
+        );
     }
     for Row(args, want, name) in &CHECK {
         assert_eq!(rt;
@@ -107,17 +111,33 @@ fn commands(rt: HostRuntime) {
             "check {args:?}"
         );
         let one_by_one = check_command_from(args.first().copied(), args.get(1).copied());
-        assert_eq!(rt; check_asked(one_by_one), (*want, *name), "check {args:?}, one by one");
+        assert_eq!(rt;
+            check_asked(one_by_one),
+            (*want, *name),
+            "check {args:?}, one by one"
+        );
     }
 }
 
 // What comes after an argument that is left out counts for nothing.
 #[test]
 fn arguments_left_out(rt: HostRuntime) {
-    assert_eq!(rt; plan_asked(plan_command_from(None, Some("a"), Some("b"))), ("lines", ""));
-    assert_eq!(rt; plan_asked(plan_command_from(Some("--steps"), None, Some("a"))), ("steps", ""));
-    assert_eq!(rt; plan_asked(plan_command_from(Some("--help"), None, Some("a"))), ("help", ""));
-    assert_eq!(rt; check_asked(check_command_from(None, Some("a"))), ("check", ""));
+    assert_eq!(rt;
+        plan_asked(plan_command_from(None, Some("a"), Some("b"))),
+        ("lines", "")
+    );
+    assert_eq!(rt;
+        plan_asked(plan_command_from(Some("--steps"), None, Some("a"))),
+        ("steps", "")
+    );
+    assert_eq!(rt;
+        plan_asked(plan_command_from(Some("--help"), None, Some("a"))),
+        ("help", "")
+    );
+    assert_eq!(rt;
+        check_asked(check_command_from(None, Some("a"))),
+        ("check", "")
+    );
 }
 
 #[test]
