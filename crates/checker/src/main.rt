@@ -11,6 +11,8 @@ const HELP: &str = "check [FILE]    judge the way that FILE, or standard input, 
 check --help    print this";
 
 // Kept: (a) `plan` has this too; a public function must pin its answer, and no contract can say what is read.
+// Its buffers are gone before the way is judged: inlined, they would lie on the stack beside the marks.
+#[inline(never)]
 fn input(rt: &HostRuntime, source: Source) -> io::Result<Vec<u8>> {
     match source {
         Source::File(path) => fs::read(rt, path),
