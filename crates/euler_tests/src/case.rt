@@ -34,13 +34,9 @@ pub fn tour(steps: usize, length: u32) -> Answer {
 #[derive(Clone, Copy)]
 pub struct Case(pub [u8; 3], pub &'static [Stretch], pub Answer);
 
-// The places of uses by the test's own reading, so that a fault of `uses::layout` is not in both.
-fn lanes(house: House) -> usize {
-    house.aisles as usize * house.deep as usize
-}
-
+// How many places a house takes, by the test's own reading, so that a fault of `uses::layout` is not in both.
 fn places(house: House) -> usize {
-    lanes(house) + 2 * (house.aisles as usize - 1)
+    house.aisles as usize * house.deep as usize + 2 * (house.aisles as usize - 1)
 }
 
 fn put(uses: &mut [u8], place: usize, times: u8) {
@@ -56,6 +52,7 @@ fn put_all(house: House, uses: &mut [u8], times: u8) {
 }
 
 pub fn lay(house: House, stretches: &[Stretch], uses: &mut [u8]) {
+    let lanes = house.aisles as usize * house.deep as usize;
     for stretch in stretches {
         match *stretch {
             Stretch::Lane(aisle, from, to, times) => {
@@ -64,9 +61,9 @@ pub fn lay(house: House, stretches: &[Stretch], uses: &mut [u8]) {
                     put(uses, place, times);
                 }
             }
-            Stretch::Front(aisle, times) => put(uses, lanes(house) + aisle as usize, times),
+            Stretch::Front(aisle, times) => put(uses, lanes + aisle as usize, times),
             Stretch::Back(aisle, times) => {
-                let place = lanes(house) + (house.aisles as usize - 1) + aisle as usize;
+                let place = lanes + (house.aisles as usize - 1) + aisle as usize;
                 put(uses, place, times);
             }
             Stretch::All(times) => put_all(house, uses, times),
