@@ -113,6 +113,8 @@ fn ends_of_parts(rt: HostRuntime) {
 fn short_memory_is_refused(rt: HostRuntime) {
     let mut lent = [OTHER; 511];
     let sorted = sort_file(&[3, 10, 2, 1, 4], &mut lent);
-    assert_eq!(rt; sorted, Err(Refusal::Short(Memory::Picks)));
+    let short = Refusal::Short(Memory::Picks);
+    assert_eq!(rt; sorted, Err(short));
+    assert_eq!(rt; (short.number(), short.place()), (9, 0));
     assert_eq!(rt; lent, [OTHER; 511]);
 }

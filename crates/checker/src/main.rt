@@ -4,13 +4,15 @@
 use std::io::Read;
 use std::process::ExitCode;
 use std::{env, fs, io};
-use text::{CheckCommand, Source, check_command};
+use text::{CheckCommand, Source, check_command_from};
 use walk::Verdict;
 
 const HELP: &str = "check [FILE]    judge the way that FILE, or standard input, claims to be a tour
 check --help    print this";
 
 // Kept: (a) `plan` has this too; a public function must pin its answer, and no contract can say what is read.
+// Its buffers are gone before the way is judged: inlined, they would lie on the stack beside the marks.
+#[inline(never)]
 fn input(rt: &HostRuntime, source: Source) -> io::Result<Vec<u8>> {
     match source {
         Source::File(path) => fs::read(rt, path),
@@ -48,9 +50,9 @@ fn run(rt: &HostRuntime, command: CheckCommand) -> anyhow::Result<ExitCode> {
 // What goes wrong is told here, and the status is all that is left of it.
 // Kept: (d) `plan` begins and ends so too; one function for both would take the command, the run and the name as parameters.
 fn main(rt: HostRuntime) -> io::Result<ExitCode> {
-    let args: Vec<String> = env::args(&rt)?.skip(1).collect(rt.alloc())?;
-    let args: Vec<&str> = args.iter().map(|arg| arg.as_str()).collect(rt.alloc())?;
-    let command = match check_command(&args) {
+    let mut args = env::args(&rt)?.skip(1);
+    let (first, second) = (args.next(), args.next());
+    let command = match check_command_from(first.as_deref(), second.as_deref()) {
         Ok(command) => command,
         Err(misuse) => {
             eprintln!(rt; "check: {misuse}")?;

@@ -1,9 +1,7 @@
 -- A way on from a spot shows that a use meets it; and uses that are round for a list touch all its picks. Assumes nothing.
 use Rattle.std.proofs.Common.{◌≡◌, ℕ, ◌<◌, true, false, Bool, ltb, ◌⊎◌, List, [], Ok, Err, Result, Option, Some, None, length, get_or, refl, ap, subst, inl, inr, arith}
 use Rattle.std.proofs.lemmas.Iterator.{YieldsList}
-use Rattle.std.proofs.lemmas.Iterator.Consumers.{YieldsList-from_first}
 use Rattle.std.proofs.lemmas.List.{get_or_default}
-use Rattle.std.specs.Iterator.{YieldsFirstBy}
 use Rattle.std.specs.Bool.{MatchBool}
 use Rattle.std.specs.List.{AllWithin, HoldsAt}
 use Rattle.std.proofs.lemmas.Bool.Decides.{nat_tests}
@@ -13,8 +11,9 @@ use Rattle.graph.proofs.Links.{touched_end}
 use Rattle.graph.proofs.Sums.{degree_at_start}
 use Rattle.house.specs.House.{House, Spot, desk}
 use Rattle.house.specs.Bounds.{picks_of}
-use Rattle.house.specs.Reading.{spot_of}
+use Rattle.house.specs.Reading.{spot_of, TakesPick}
 use Rattle.house.specs.declared.entries.Picks.{Picks}
+use Rattle.house.proofs.Searching.{picks_given}
 use Rattle.walk.specs.Steps.{Within}
 use Rattle.uses.specs.Edges.{degree, house_graph}
 use Rattle.uses.specs.Layout.{held_in, uses_in}
@@ -33,8 +32,8 @@ use Rattle.euler.proofs.Rounded.{round_eulerian, round_picked, eulerian_round, r
 use Rattle.euler.proofs.Stuck.{stuck_degree}
 
 -- the picks of a list, as they come one by one
-pub road : (s : Picks) {list : List ℕ} → s.bytes.now ≡ list → YieldsList (YieldsFirstBy spot_of (λ (i : Picks). picks_of i.bytes.now)) spot_of s (picks_of list)
-road s {list} begins = YieldsList-from_first spot_of (λ (i : Picks). picks_of i.bytes.now) (picks_of list) (ap picks_of begins)
+pub road : (s : Picks) {list : List ℕ} → s.bytes.now ≡ list → YieldsList TakesPick spot_of s (picks_of list)
+road s {list} begins = picks_given s (picks_of list) (ap picks_of begins)
 
 positive : (n : ℕ) → 0 < n → true ≡ ltb 0 n
 positive n l = grind (arith, nat_tests)

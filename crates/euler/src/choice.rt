@@ -24,7 +24,9 @@ const INSIDE: [Step; 2] = [Step::Deeper, Step::Back];
 
 const AT_BACK: [Step; 3] = [Step::Back, Step::NextBack, Step::BeforeBack];
 
+// Each caller has a copy of its own: called from two places and not inlined, it makes a walk take twice as long.
 // Kept: (d) one call with the list that was chosen would be no shorter, and its one copy would know none of the three.
+#[inline(always)]
 pub(crate) fn choose(from: Crossing<'_>) -> Option<Onward>
     ensures { Chooses (house_of from.entry.house) from.entry.entries.now (spot_of from.entry.at) result }
 {

@@ -1,7 +1,7 @@
 // Memory that is too short, and uses that are too many: refused, and all memory stays as it was.
 use crate::case::Stretch::All;
 use crate::case::{Answer, Case, FEW_STEPS, FEW_USES, check_cases, tour};
-use euler::walk_uses;
+use euler::{Unwalked, walk_uses};
 use std::process::Abort;
 use std::test::Fail;
 
@@ -15,6 +15,14 @@ fn too_many_uses(rt: HostRuntime) -> Result<(), Fail> {
             Case([1, 200, 1], &[All(130)], FEW_STEPS),
         ],
     )
+}
+
+// The number and place of a refusal, as README has them.
+fn told(answer: Answer) -> Option<(u8, usize)> {
+    match answer {
+        Err(Unwalked::Refused(refusal)) => Some((refusal.number(), refusal.place())),
+        Ok(_) | Err(Unwalked::NotRound) => None,
+    }
 }
 
 fn check_short(
@@ -32,6 +40,8 @@ fn check_short(
 
 #[test]
 fn short_memory(rt: HostRuntime) -> Result<(), Fail> {
+    assert_eq!(rt; told(FEW_STEPS), Some((9, 2)));
+    assert_eq!(rt; told(FEW_USES), Some((9, 3)));
     check_short(&rt, &mut [0; 12925], &mut [9; 25852], FEW_USES)?;
     check_short(&rt, &mut [0; 12926], &mut [9; 25851], FEW_STEPS)?;
     check_short(&rt, &mut [0; 12925], &mut [9; 25851], FEW_STEPS)?;

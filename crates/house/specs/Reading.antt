@@ -1,9 +1,12 @@
 -- What a file of bytes says: which house and pick list, and with a claim which way; or why it is refused.
 -- A file is the bytes of the aisles, their depth and their distance, and then the list. Assumes nothing: these are definitions.
-use Rattle.std.specs.Prelude.{◌≡◌, ℕ, ◌+◌, ◌-◌, ◌*◌, ◌<◌, ◌≤◌, min, ◌&&◌, List, length, take, drop, Some, None, Ok, Err, Option, Result, nat_le, slice_index, slice_index_or}
+use Rattle.std.specs.Prelude.{◌≡◌, ℕ, ◌+◌, ◌-◌, ◌*◌, ◌<◌, ◌≤◌, min, ◌&&◌, List, length, take, drop, Some, None, Ok, Err, Option, Result, nat_le, slice_index, slice_index_or, MatchOption}
 use Rattle.std.specs.Borrow.{Bor}
+use Rattle.std.specs.Iterator.{YieldsFirstBy}
 use Rattle.house.specs.House as ideal
+use Rattle.house.specs.Bounds.{picks_of}
 use Rattle.house.specs.Rules.{or_else, unless, aisles_rule, deep_rule, apart_rule, size_rule, aisle_rule, shelf_rule}
+use Rattle.house.specs.declared.entries.Picks.{Picks}
 use Rattle.house.specs.declared.layout.House.{House}
 use Rattle.house.specs.declared.layout.Spot.{Spot}
 use Rattle.house.specs.declared.picks.PickList.{PickList}
@@ -100,3 +103,7 @@ ReadsClaim file rule (Err e) = rule ≡ Some e
 abbrev pub Gets : List ideal.Spot → ℕ → Option Spot → Type 0
 Gets picks i None = length picks ≤ i
 Gets picks i (Some s) = (i < length picks) × (spot_of s ≡ slice_index_or picks i ideal.desk)
+
+-- the first pick is taken from what is left of a list, and its two bytes with it; where no pick is left, all bytes stay
+abbrev pub TakesPick : Picks → Option Spot → Picks → Type 0
+TakesPick from taken on = YieldsFirstBy spot_of (λ s. picks_of s.bytes.now) from taken on × MatchOption taken (on.bytes.now ≡ from.bytes.now) (λ _. on.bytes.now ≡ drop 2 from.bytes.now)

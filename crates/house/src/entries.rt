@@ -1,11 +1,10 @@
 // The picks of a list, one after the other or by their place.
 ghost use Rattle.std.specs.Prelude.{◌≡◌, ◌/◌, length};
-ghost use Rattle.std.specs.Iterator.{YieldsFirstBy, item_count};
+ghost use Rattle.std.specs.Iterator.{item_count};
 ghost use Rattle.house.specs.Bounds.{picks_of};
-ghost use Rattle.house.specs.Reading.{spot_of, Gets};
+ghost use Rattle.house.specs.Reading.{Gets, TakesPick};
 
 use crate::layout::Spot;
-use crate::parts::after;
 use crate::picks::PickList;
 
 // The picks of a list, first to last.
@@ -32,10 +31,14 @@ impl<'a> PickList<'a> {
     pub fn get(self, i: usize) -> Option<Spot>
         ensures { Gets (picks_of self.entry.bytes.now) i result }
     {
-        let at = i.checked_mul(2)?;
-        match after(self.bytes, at) {
-            &[aisle, depth, ..] => Some(Spot { aisle, depth }),
-            _ => None,
+        // Kept: (b) by the slice's methods it takes 4.5 times the instructions, where a caller goes through a list by place.
+        if i < self.len() {
+            Some(Spot {
+                aisle: self.bytes[2 * i],
+                depth: self.bytes[2 * i + 1],
+            })
+        } else {
+            None
         }
     }
 
@@ -61,7 +64,7 @@ impl<'a> IntoIterator for PickList<'a> {
 impl<'a> Iterator for Picks<'a> {
     type Item = Spot;
 
-    ghost next_gives = { YieldsFirstBy spot_of (λ s. picks_of s.bytes.now) };
+    ghost next_gives = { TakesPick };
 
     ghost remaining = { item_count (λ s. picks_of s.bytes.now) };
 

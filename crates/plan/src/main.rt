@@ -8,7 +8,7 @@ use std::alloc::{AllocError, Global};
 use std::io::{Read, Write};
 use std::process::ExitCode;
 use std::{env, fs, io};
-use text::{PlanCommand, Source, claim, plan_command, way_text};
+use text::{PlanCommand, Source, claim, plan_command_from, way_text};
 
 const HELP: &str =
     "plan [FILE]            print a shortest tour past the picks of FILE, or of standard input
@@ -132,9 +132,9 @@ fn run(rt: &HostRuntime, command: PlanCommand) -> anyhow::Result<ExitCode> {
 
 // What goes wrong is told here, and the status is all that is left of it.
 fn main(rt: HostRuntime) -> io::Result<ExitCode> {
-    let args: Vec<String> = env::args(&rt)?.skip(1).collect(rt.alloc())?;
-    let args: Vec<&str> = args.iter().map(|arg| arg.as_str()).collect(rt.alloc())?;
-    let command = match plan_command(&args) {
+    let mut args = env::args(&rt)?.skip(1);
+    let (first, second, third) = (args.next(), args.next(), args.next());
+    let command = match plan_command_from(first.as_deref(), second.as_deref(), third.as_deref()) {
         Ok(command) => command,
         Err(misuse) => {
             eprintln!(rt; "plan: {misuse}")?;

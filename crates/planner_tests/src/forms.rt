@@ -1,6 +1,5 @@
 // What a way is made of, read from its uses alone: the passages between neighbouring aisles, the kind of use of each aisle, and the class of what is used up to it.
 use house::House;
-use planner::USES;
 use std::process::Abort;
 use std::test::Fail;
 use uses::count;
@@ -180,7 +179,7 @@ impl Counts {
     }
 
     pub fn add_way(&mut self, house: House, way: &[u8]) -> Result<(), Fail> {
-        let mut uses = [9; USES];
+        let mut uses = [9; 12926];
         count(house, way, &mut uses)?;
         let mut part = Part {
             front: 0,

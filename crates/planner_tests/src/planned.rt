@@ -1,11 +1,13 @@
 // A list that is planned, and its way, which is held to the checker.
 use euler::Walked;
 use house::Spot;
-use planner::{CELLS, Lent, PICKS, STEPS, USES, plan};
+use planner::{Lent, plan};
 use std::alloc::{AllocError, Global};
 use std::process::Abort;
 use std::test::Fail;
 use walk::{Verdict, check as judge};
+
+pub const STEPS: usize = 25852;
 
 // What the checker reads: the house, the number of picks in two bytes, the picks, and the way.
 // Kept: (d) the test writes the claim by its own reading of the format, so that a fault of `text` is not in both.
@@ -39,11 +41,11 @@ pub fn planned(
     steps: &mut [u8; STEPS],
 ) -> Result<Walked, Fail> {
     let mut memory = Lent {
-        picks: &mut [Spot { aisle: 9, depth: 9 }; PICKS],
-        lengths: &mut [9; CELLS],
-        came: &mut [9; CELLS],
+        picks: &mut [Spot { aisle: 9, depth: 9 }; 512],
+        lengths: &mut [9; 448],
+        came: &mut [9; 448],
         steps,
-        uses: &mut [9; USES],
+        uses: &mut [9; 12926],
     };
     let walked = plan(file, &mut memory)?;
     let n = walked.steps;

@@ -1,10 +1,9 @@
 // Lengths of shortest tours: of worked lists, and of small houses beside the shortest of all walks. The plans of the small houses have every form.
 use crate::forms::Counts;
 use crate::houses::Draws;
-use crate::planned::planned;
+use crate::planned::{STEPS, planned};
 use crate::walks::shortest;
 use house::read;
-use planner::STEPS;
 use std::alloc::Global;
 use std::process::Abort;
 use std::test::Fail;

@@ -1,5 +1,5 @@
 // The length of a shortest tour, found among all walks. It knows nothing of uses, classes or kinds: a walk is where it ends and which picks it has passed.
-use house::{House, picks_in};
+use house::House;
 
 // Small houses only: 4 aisles, each with depths 0 to 6, and 5 picks.
 const DEPTHS: usize = 7;
@@ -66,8 +66,9 @@ impl Walks {
     // Gives each pick its bit, and says how many sets of picks there are.
     fn place(&mut self, list: &[u8]) -> u8 {
         let mut sets: u8 = 1;
-        for pick in picks_in(list) {
-            let at = spot(pick.aisle, pick.depth);
+        // Kept: (d) the test reads the list by itself, so that a fault of `house` is not in both.
+        for i in 0..list.len() / 2 {
+            let at = spot(list[2 * i], list[2 * i + 1]);
             if at < SPOTS {
                 self.picks[at] |= sets;
             }

@@ -97,6 +97,7 @@ measure_few h few (b ∷ bs) = omega (arith, worth_few h b few, measure_few h fe
 
 -- the first piece of a row, and what is left of it
 pub record Front (row : List ℕ) (p : Piece) : Type 0 where
+  pub some : 0 < count_of p
   pub within : count_of p ≤ length row
   pub rest : pieces row ≡ p ∷ pieces (drop (count_of p) row)
   pub long : (h : House) → measure h row ≡ count_of p * worth h (sort_of p) + measure h (drop (count_of p) row)
@@ -113,6 +114,7 @@ front_piece (b ∷ bs) p e =
           let q : piece_of b (suc n) ≡ p = cc in
           subst (Front (b ∷ bs)) q
           (record {
+            some = omega (arith, m.count_is);
             within = omega (arith, m.count_is, prefix_len-le-length (eqb b) bs);
             rest = r ∙ ap (λ (x : ℕ). piece_of b (suc n) ∷ pieces (drop x (b ∷ bs))) (sym m.count_is);
             long =

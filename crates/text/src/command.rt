@@ -46,6 +46,22 @@ pub fn plan_command<'a>(args: &[&'a str]) -> Result<PlanCommand<'a>, Misuse<'a>>
     }
 }
 
+// By the first three arguments of `plan`, as they are taken one by one: what comes after one that is left out counts for nothing.
+pub fn plan_command_from<'a>(
+    first: Option<&'a str>,
+    second: Option<&'a str>,
+    third: Option<&'a str>,
+) -> Result<PlanCommand<'a>, Misuse<'a>>
+    ensures { result ≡ plan_command_of first.entry second.entry third.entry }
+{
+    match (first, second, third) {
+        (None, _, _) => plan_command(&[]),
+        (Some(first), None, _) => plan_command(&[first]),
+        (Some(first), Some(second), None) => plan_command(&[first, second]),
+        (Some(first), Some(second), Some(third)) => plan_command(&[first, second, third]),
+    }
+}
+
 // By the arguments of `check`.
 pub fn check_command<'a>(args: &[&'a str]) -> Result<CheckCommand<'a>, Misuse<'a>>
     ensures { result ≡ check_command_of (slice_get args.entry.now 0) (slice_get args.entry.now 1) }
@@ -56,6 +72,20 @@ pub fn check_command<'a>(args: &[&'a str]) -> Result<CheckCommand<'a>, Misuse<'a
     match *name {
         "--help" => alone(rest, CheckCommand::Help),
         _ => read_from(args).map(CheckCommand::Check),
+    }
+}
+
+// By the first two arguments of `check`, as they are taken one by one.
+pub fn check_command_from<'a>(
+    first: Option<&'a str>,
+    second: Option<&'a str>,
+) -> Result<CheckCommand<'a>, Misuse<'a>>
+    ensures { result ≡ check_command_of first.entry second.entry }
+{
+    match (first, second) {
+        (None, _) => check_command(&[]),
+        (Some(first), None) => check_command(&[first]),
+        (Some(first), Some(second)) => check_command(&[first, second]),
     }
 }
 

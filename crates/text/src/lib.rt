@@ -10,7 +10,10 @@ mod pieces;
 mod shown;
 
 pub use claims::claim;
-pub use command::{CheckCommand, Misuse, PlanCommand, Source, check_command, plan_command};
+pub use command::{
+    CheckCommand, Misuse, PlanCommand, Source, check_command, check_command_from, plan_command,
+    plan_command_from,
+};
 pub use laws::{claims_of_tours_hold, pieces_are_the_steps};
 pub use lines::way_text;
 pub use piece::Piece;

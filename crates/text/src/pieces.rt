@@ -57,7 +57,14 @@ fn run(way: &[u8], byte: u8) -> usize
     let (blocks, _) = way.as_chunks::<16>();
     let whole = 16 * alike(blocks, &[byte; 16]);
     let (_, rest) = way.split_at(whole);
-    whole + alike(rest, &byte)
+    whole + short_run(rest, byte)
+}
+
+// The same, byte by byte.
+fn short_run(way: &[u8], byte: u8) -> usize
+    ensures { result ≡ prefix_len (λ x. byte == x) way.now }
+{
+    way.iter().take_while(|other| byte == **other).count()
 }
 
 // How many items at the front are as this one.

@@ -1,6 +1,9 @@
 // The commands that arguments ask for.
 use std::test::Fail;
-use text::{CheckCommand, Misuse, PlanCommand, Source, check_command, plan_command};
+use text::{
+    CheckCommand, Misuse, PlanCommand, Source, check_command, check_command_from, plan_command,
+    plan_command_from,
+};
 
 // What is asked for, and the file or the option that is named; no name stands for standard input.
 type Asked<'a> = (&'static str, &'a str);
@@ -90,6 +93,16 @@ fn commands(rt: HostRuntime) {
             (*want, *name),
             "plan {args:?}"
         );
+        let one_by_one = plan_command_from(
+            args.first().copied(),
+            args.get(1).copied(),
+            args.get(2).copied(),
+        );
+        assert_eq!(rt;
+            plan_asked(one_by_one),
+            (*want, *name),
+            "plan {args:?}, one by one"
+        );
     }
     for Row(args, want, name) in &CHECK {
         assert_eq!(rt;
@@ -97,7 +110,34 @@ fn commands(rt: HostRuntime) {
             (*want, *name),
             "check {args:?}"
         );
+        let one_by_one = check_command_from(args.first().copied(), args.get(1).copied());
+        assert_eq!(rt;
+            check_asked(one_by_one),
+            (*want, *name),
+            "check {args:?}, one by one"
+        );
     }
+}
+
+// What comes after an argument that is left out counts for nothing.
+#[test]
+fn arguments_left_out(rt: HostRuntime) {
+    assert_eq!(rt;
+        plan_asked(plan_command_from(None, Some("a"), Some("b"))),
+        ("lines", "")
+    );
+    assert_eq!(rt;
+        plan_asked(plan_command_from(Some("--steps"), None, Some("a"))),
+        ("steps", "")
+    );
+    assert_eq!(rt;
+        plan_asked(plan_command_from(Some("--help"), None, Some("a"))),
+        ("help", "")
+    );
+    assert_eq!(rt;
+        check_asked(check_command_from(None, Some("a"))),
+        ("check", "")
+    );
 }
 
 #[test]

@@ -53,6 +53,12 @@ below_tells p n =
       λ f. tells.1 (λ k l. let j : k < n = omega (arith, long) in ap p (at k j) ∙ f k j),
     )
 
+-- the test of the picks
+pub seen_decides : (picks : List Spot) (seen : List Bool) {r : Bool} → r ≡ list_all (has seen) picks → Decides r (PicksSeen picks seen)
+seen_decides picks seen is =
+    let tells = list_all_tells (has seen) picks desk in
+    (λ e. tells.0 (sym is ∙ e), λ f. is ∙ tells.1 f)
+
 -- the tests of the spots
 module _ (h : House) (us : List ℕ) (seen : List Bool) where
   aisle_tells : (a : ℕ) → Decides (fine_aisle h us seen a) (FineAisle h us seen a)

@@ -60,6 +60,8 @@ fn are_round(picks: PickList<'_>, uses: HouseUses<'_>) -> bool
 }
 
 // Whether the uses in a slice, which has room for those of any house, are round for the list. It takes time linear in the house.
+// Its frame is large, so that it is kept out of its callers.
+#[inline(never)]
 pub fn is_round(picks: PickList<'_>, uses: &[u8]) -> Result<bool, Refusal>
     ensures { TellsRound (house_of picks.entry.house) (picks_of picks.entry.bytes.now) uses.now result }
 {

@@ -7,8 +7,9 @@ mod tests {
     use std::array;
     use std::process::Abort;
     use std::test::Fail;
-    use uses::{Miscount, ROOM, cost, count, is_round};
+    use uses::{Miscount, cost, count, is_round};
 
+    const ROOM: usize = 12926;
     // what every entry holds before counting
     const BEFORE: u8 = 7;
 
@@ -174,31 +175,40 @@ mod tests {
         assert!(rt; uses.iter().all(|entry| *entry == BEFORE));
     }
 
-    fn check_refused(rt: &impl Abort, way: &[u8], uses: &mut [u8], refusal: Refusal) {
+    // A refusal with the number and place that README promises.
+    fn check_refused(
+        rt: &impl Abort,
+        way: &[u8],
+        uses: &mut [u8],
+        refusal: Refusal,
+        told: (u8, usize),
+    ) {
         check_miscount(rt, way, uses, Miscount::Refused(refusal));
+        assert_eq!(rt; (refusal.number(), refusal.place()), told);
     }
 
     // A slice without room for any house has no cost, and nothing is told of it.
     fn check_short(rt: &impl Abort, uses: &[u8]) {
         assert_eq!(rt; cost(HOUSE, uses), Err(TOO_SHORT));
         assert_eq!(rt; tell(&[2, 10, 3, 0, 0], uses), Err(TOO_SHORT));
+        assert_eq!(rt; (TOO_SHORT.number(), TOO_SHORT.place()), (9, 3));
     }
 
     #[test]
     fn refusals(rt: HostRuntime) {
         let mut uses = [BEFORE; ROOM];
-        check_refused(&rt, &[0, 6, 9], &mut uses, Refusal::NoStep(1));
-        check_refused(&rt, &[1, 0, 6], &mut uses, Refusal::NoStep(2));
-        check_refused(&rt, &[1, 0], &mut uses, Refusal::LeadsOut(0));
-        check_refused(&rt, &[0, 2], &mut uses, Refusal::LeadsOut(1));
-        check_refused(&rt, &[2, 2], &mut uses, Refusal::LeadsOut(1));
-        check_refused(&rt, &[6], &mut uses[0..ROOM - 1], TOO_SHORT);
-        check_refused(&rt, &[], &mut [], TOO_SHORT);
+        check_refused(&rt, &[0, 6, 9], &mut uses, Refusal::NoStep(1), (7, 1));
+        check_refused(&rt, &[1, 0, 6], &mut uses, Refusal::NoStep(2), (7, 2));
+        check_refused(&rt, &[1, 0], &mut uses, Refusal::LeadsOut(0), (8, 0));
+        check_refused(&rt, &[0, 2], &mut uses, Refusal::LeadsOut(1), (8, 1));
+        check_refused(&rt, &[2, 2], &mut uses, Refusal::LeadsOut(1), (8, 1));
+        check_refused(&rt, &[6], &mut uses[0..ROOM - 1], TOO_SHORT, (9, 3));
+        check_refused(&rt, &[], &mut uses[0..0], TOO_SHORT, (9, 3));
     }
 
     #[test]
     fn short_slices(rt: HostRuntime) {
-        check_short(&rt, &[0; ROOM - 1]);
+        check_short(&rt, &[0; 12925]);
         check_short(&rt, &[]);
     }
 
@@ -211,9 +221,9 @@ mod tests {
         check_miscount(&rt, &way, &mut uses, Miscount::Overfull(255));
         check_miscount(&rt, &way[0..256], &mut uses, Miscount::Overfull(255));
         way[299] = 5;
-        check_refused(&rt, &way, &mut uses, Refusal::LeadsOut(299));
+        check_refused(&rt, &way, &mut uses, Refusal::LeadsOut(299), (8, 299));
         way[298] = 6;
-        check_refused(&rt, &way, &mut uses, Refusal::NoStep(298));
+        check_refused(&rt, &way, &mut uses, Refusal::NoStep(298), (7, 298));
         assert_eq!(rt; count(HOUSE, &way[0..255], &mut uses), Ok(()));
         assert_eq!(rt; uses[0], 255);
     }

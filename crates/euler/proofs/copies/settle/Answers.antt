@@ -8,15 +8,15 @@ returns-then-not-trace c =
       refl,
       c.if-not-trace.ensures.decides,
       copied_back c.args.uses.now c.trace.new.left n (drop n c.args.left.now) (omega arith) (omega arith)
-          (λ k l. c.if-not-trace.ensures.beyond k (omega arith)) c.copy_from_slice.ensures.after c.copy_from_slice-then-not-trace.ensures.after,
+          (λ k l. c.if-not-trace.ensures.beyond k (omega arith)) c.copy.ensures c.copy-then-not-trace.ensures,
       refl,
     )
 
 pub returns : goal.returns
 returns c =
     record {
-      closes = closes_copied c.args.n c.trace.new.steps c.args.steps.now c.copy_from_slice-2.ensures.after (omega arith) c.if-not-trace.ensures.decides;
-      kept = kept_behind c.args.n c.trace.new.steps c.args.steps.now c.copy_from_slice-2.ensures.after (omega arith);
+      closes = closes_copied c.args.n c.trace.new.steps c.args.steps.now c.copy-2.ensures (omega arith) c.if-not-trace.ensures.decides;
+      kept = kept_behind c.args.n c.trace.new.steps c.args.steps.now c.copy-2.ensures (omega arith);
       used_up = c.if-not-trace.ensures.used_up refl;
       beyond = c.if-not-trace.ensures.beyond;
     }

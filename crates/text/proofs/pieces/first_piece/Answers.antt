@@ -8,4 +8,4 @@ returns-in_err-byte c = c.from_residual.ensures ∙ first_of_none c.args.way.now
 pub returns : goal.returns
 returns c =
     let item = c.in_ok-byte.ensures.item.3 in
-    c.of.ensures ∙ first_of_run c.args.way.now c.in_ok-byte.field-0.now c.run.result item.0 (item.1 0) c.run.ensures
+    c.of.ensures ∙ first_of_run c.args.way.now c.in_ok-byte.field-0.now _ item.0 (item.1 0) (omega (arith, c.run.ensures))
