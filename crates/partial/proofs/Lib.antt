@@ -7,6 +7,7 @@ pub mod Moves
 pub mod Numbered
 pub mod Offers
 pub mod Parted
+pub mod ReadBack
 pub mod RowOffers
 pub mod RowsMade
 pub mod Traced

@@ -2,16 +2,14 @@
 use Rattle.std.proofs.Common.{◌≡◌, ℕ, zero, suc, ◌+◌, ◌-◌, ◌<◌, ◌≤◌, List, length, get_or, set, replicate, sym, refl, ap, ◌∙◌, add-one, arith, length-set, get_or-set_other, get_or-set_same}
 use native.Mathlib.Decide.{ℕ_discrete}
 use Rattle.classes.specs.Classes.{Class}
-use Rattle.partial.specs.Choice.{number_of, numbers}
-use Rattle.partial.specs.declared.choice.Choice.{Choice}
 use Rattle.partial.specs.Table.{cell}
 use Rattle.partial.specs.Tracing.{choice_class, class_back, chosen}
 
--- nothing but a choice with number 0
-pub all_zero : (c : Choice) → number_of c ≡ 0 → (n a : ℕ) → get_or (numbers (replicate n c)) a 0 ≡ 0
-all_zero c e zero a = refl
-all_zero c e (suc n) zero = e
-all_zero c e (suc n) (suc a) = all_zero c e n a
+-- nothing but 0
+pub all_zero : (n a : ℕ) → ◌≡◌ {A = ℕ} (get_or (replicate n 0) a 0) 0
+all_zero zero a = refl
+all_zero (suc n) zero = refl
+all_zero (suc n) (suc a) = all_zero n a
 
 module _ (m : ℕ) (came : List ℕ) (end : Class) where
   -- k choices are read, and the next class is known

@@ -1,7 +1,7 @@
 // The choices of the best plan.
 ghost use Rattle.house.specs.Reading.{house_of};
 ghost use Rattle.aisle.specs.Values.{spots_of};
-ghost use Rattle.partial.specs.Choice.{numbered, numbers};
+ghost use Rattle.partial.specs.Choice.{numbered};
 ghost use Rattle.partial.specs.Choosing.{Chooses, Chosen};
 ghost use Rattle.partial.specs.Table.{tables};
 
@@ -16,8 +16,8 @@ fn choose(
     picks: &[Spot],
     lengths: &mut [u32; CELLS],
     came: &mut [u8; CELLS],
-) -> [Choice; 64]
-    ensures { Chosen (house_of house) (spots_of picks.now) (tables lengths.old came.old) (tables lengths.new came.new) (numbers result) }
+) -> [u8; 64]
+    ensures { Chosen (house_of house) (spots_of picks.now) (tables lengths.old came.old) (tables lengths.new came.new) result }
 {
     let mut tables = Tables { lengths, came };
     tables.fill(house, picks, 0, 0);
@@ -26,7 +26,27 @@ fn choose(
     trace(came, house.aisles, end)
 }
 
-// Fills the tables for picks in order, and reads back the choice at each aisle of a shortest tour.
+// Fills the tables for picks in order, and reads back the number of the choice at each aisle of a shortest tour.
+// Kept: (a) 64 bytes are copied in line, where for 64 choices an archive for C would ask for `memcpy` from outside.
+// Kept: (a) the request prescribes lent slices of u32 and u8 that are written together.
+pub fn best_numbers(
+    house: House,
+    picks: &[Spot],
+    lengths: &mut [u32],
+    came: &mut [u8],
+) -> Result<[u8; 64], Refusal>
+    ensures { Chooses (house_of house) (spots_of picks.now) (tables lengths.old came.old) (tables lengths.new came.new) result }
+{
+    let Some(lengths) = lengths.first_chunk_mut() else {
+        return Err(Refusal::Short(Memory::Tables));
+    };
+    let Some(came) = came.first_chunk_mut() else {
+        return Err(Refusal::Short(Memory::Tables));
+    };
+    Ok(choose(house, picks, lengths, came))
+}
+
+// The same, with the choices themselves in place of their numbers.
 // Kept: (a) the request prescribes lent slices of u32 and u8 that are written together.
 pub fn best_choices(
     house: House,
@@ -36,11 +56,6 @@ pub fn best_choices(
 ) -> Result<[Choice; 64], Refusal>
     ensures { Chooses (house_of house) (spots_of picks.now) (tables lengths.old came.old) (tables lengths.new came.new) (numbered result) }
 {
-    let Some(lengths) = lengths.first_chunk_mut() else {
-        return Err(Refusal::Short(Memory::Tables));
-    };
-    let Some(came) = came.first_chunk_mut() else {
-        return Err(Refusal::Short(Memory::Tables));
-    };
-    Ok(choose(house, picks, lengths, came))
+    let numbers = best_numbers(house, picks, lengths, came)?;
+    Ok(numbers.map(Choice::from))
 }

@@ -11,5 +11,5 @@ mod table;
 mod trace;
 
 pub use choice::Choice;
-pub use choosing::best_choices;
+pub use choosing::{best_choices, best_numbers};
 pub use table::CELLS;

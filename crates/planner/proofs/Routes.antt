@@ -17,8 +17,6 @@ use Rattle.euler.specs.declared.answer.Unwalked.{Unwalked}
 use Rattle.euler.specs.declared.answer.Unwalked.TheVariants.{Refused, NotRound}
 use Rattle.euler.specs.declared.answer.Walked.{Walked}
 use Rattle.std.proofs.lemmas.List.{get_or_default}
-use Rattle.partial.specs.Choice.{numbers, numbered}
-use Rattle.partial.specs.declared.choice.Choice.{Choice}
 use Rattle.partial.specs.Choosing.{Chosen, Chooses}
 use Rattle.classes.specs.Classes.{passage_front, passage_back}
 use Rattle.partial.specs.Ending.{length_at, ending}
@@ -63,7 +61,7 @@ round_for_none h picks u r = record { even = r.even; used = r.used; picked = λ 
 
 -- choices are made where there is room for the tables
 pub is_chosen :
-    (h : House) (ss : List Spot) (was is : Tables) (r : Result (List Choice) Refusal) → 448 ≤ length was.lengths → 448 ≤ length was.came → Chooses h ss was is (numbered r) →
+    (h : House) (ss : List Spot) (was is : Tables) (r : Result (List ℕ) Refusal) → 448 ≤ length was.lengths → 448 ≤ length was.came → Chooses h ss was is r →
     is_ok r ≡ true
 is_chosen h ss was is (Ok choices) l m chooses = refl
 is_chosen h ss was is (Err e) l m chooses = absurd (some_not_none _ e chooses.0 (unless_kept _ _ (rw (le-leb _ _ l, le-leb _ _ m) refl)))
@@ -159,10 +157,10 @@ pub record Facts (h : House) (picks : List Spot) (was is : List Entry) (lengths 
   pub laid : BestLaid h (sorted picks) lengths came lengths' came' us us₁
 
 pub facts :
-    (h : House) (picks : List Spot) (was is : List Entry) (lengths came lengths' came' us us₁ : List ℕ) (choices : List Choice) (n : ℕ) (s : Result ℕ Refusal) (r : Result (List Choice) Refusal) →
-    Sorts picks was is s → s ≡ Ok n → Chooses h (spots_of (take n is)) (tables lengths came) (tables lengths' came') (numbered r) → r ≡ Ok choices →
-    Laid h (at (numbers choices)) (part_at (spots_of (take n is))) h.aisles us us₁ → Facts h picks was is lengths came lengths' came' us us₁
-facts h picks was is lengths came lengths' came' us us₁ choices n s r sorts told chooses made laid =
+    (h : House) (picks : List Spot) (was is : List Entry) (lengths came lengths' came' us us₁ numbers : List ℕ) (n : ℕ) (s : Result ℕ Refusal) (r : Result (List ℕ) Refusal) →
+    Sorts picks was is s → s ≡ Ok n → Chooses h (spots_of (take n is)) (tables lengths came) (tables lengths' came') r → r ≡ Ok numbers →
+    Laid h (at numbers) (part_at (spots_of (take n is))) h.aisles us us₁ → Facts h picks was is lengths came lengths' came' us us₁
+facts h picks was is lengths came lengths' came' us us₁ numbers n s r sorts told chooses made laid =
     record {
       holds = subst (λ k. Holds k (sorted picks) was is) done.1 done.2;
       laid = subst (λ ss. BestLaid h ss lengths came lengths' came' us us₁) (done.2.first) best;
@@ -173,5 +171,5 @@ facts h picks was is lengths came lengths' came' us us₁ choices n s r sorts to
 
     best : BestLaid h (spots_of (take n is)) lengths came lengths' came' us us₁
     best =
-        chosen_laid h (spots_of (take n is)) lengths came lengths' came' (numbers choices) us us₁
-        (subst (λ (x : Result (List Choice) Refusal). Chooses h (spots_of (take n is)) (tables lengths came) (tables lengths' came') (numbered x)) made chooses).1 laid
+        chosen_laid h (spots_of (take n is)) lengths came lengths' came' numbers us us₁
+        (subst (Chooses h (spots_of (take n is)) (tables lengths came) (tables lengths' came')) made chooses).1 laid

@@ -7,7 +7,7 @@ ghost use Rattle.aisle.specs.Reach.{depths_of};
 ghost use Rattle.aisle.specs.Values.{use_of, spots_of};
 ghost use Rattle.classes.specs.Classes.{passage_front, passage_back};
 ghost use Rattle.classes.specs.Values.{passage_of};
-ghost use Rattle.partial.specs.Choice.{number_of, numbers};
+ghost use Rattle.partial.specs.Choice.{number_of};
 ghost use Rattle.planner.specs.Laying.{steps_or_none, Painted, reached, Adds, Laid, at, part_at};
 
 use aisle::{AisleUse, Gap, cheapest_past, part_end};
@@ -88,16 +88,16 @@ fn lay_aisle(uses: &mut [u8], house: House, aisle: u8, choice: Choice, picks: &[
     cross(uses, house, aisle, choice.passage);
 }
 
-// The uses of the plan with these choices, for picks in order.
-pub(crate) fn lay(house: House, picks: &[Spot], choices: [Choice; 64], uses: &mut [u8])
+// The uses of the plan with the choices of these numbers, for picks in order.
+pub(crate) fn lay(house: House, picks: &[Spot], numbers: [u8; 64], uses: &mut [u8])
     requires { 12926 ≤ length uses.old }
-    ensures { Laid (house_of house) (at (numbers choices)) (part_at (spots_of picks.now)) house.aisles uses.old uses.new }
+    ensures { Laid (house_of house) (at numbers) (part_at (spots_of picks.now)) house.aisles uses.old uses.new }
 {
     let mut from = 0;
-    // Kept: (c) over `(0..house.aisles).zip(choices)` it stays open that the part of the picks begins within them.
+    // Kept: (c) over `(0..house.aisles).zip(numbers)` it stays open that the part of the picks begins within them.
     for aisle in 0..house.aisles {
         let to = part_end(picks, from, aisle);
-        let choice = choices[aisle as usize];
+        let choice = Choice::from(numbers[aisle as usize]);
         lay_aisle(uses, house, aisle, choice, &picks[from..to]);
         from = to;
     }

@@ -11,7 +11,7 @@ use crate::memory::Lent;
 use aisle::sort_picks;
 use euler::{Walked, walk_uses};
 use house::{PickList, Refusal, Spot, read};
-use partial::best_choices;
+use partial::best_numbers;
 
 // The uses of a shortest tour past the picks of a list.
 // Kept: (c) over a `&mut Lent` the borrow of one slice while another is read is not covered, and through `&mut *self.picks` only its length is known afterwards.
@@ -29,8 +29,8 @@ fn lay_best(
     ensures laid { BestLaid (house_of list.entry.house) (sorted (picks_of list.entry.bytes.now)) lengths.old came.old lengths.new came.new uses.old uses.new }
 {
     let n = sort_picks(list, picks).unwrap();
-    let choices = best_choices(list.house, &picks[..n], lengths, came).unwrap();
-    lay(list.house, &picks[..n], choices, uses);
+    let numbers = best_numbers(list.house, &picks[..n], lengths, came).unwrap();
+    lay(list.house, &picks[..n], numbers, uses);
 }
 
 impl Lent<'_> {

@@ -1,21 +1,14 @@
-use Rattle.std.proofs.Common.{List, ℕ, length, ap}
+use Rattle.std.proofs.Common.{◌≡◌, List, ℕ, rules}
 use Rattle.house.specs.Reading.{house_of}
-use Rattle.partial.specs.Choice.{numbers}
+use Rattle.aisle.specs.Values.{spots_of}
 use Rattle.partial.specs.Table.{tables}
-use Rattle.partial.proofs.Lifted.{whole_chunk, chosen_by_chunks, room_for_tables, second_short}
+use Rattle.partial.proofs.ReadBack.{chosen_read}
 use Rattle.partial.proofs.choosing.best_choices.Goals as goal
 
-pub returns-in_default-first_chunk_mut : goal.returns-in_default-first_chunk_mut
-returns-in_default-first_chunk_mut c = (
-  second_short (length c.args.lengths.now) (length c.args.came.now) c.in-Some.ensures.cases.enough c.in_default-first_chunk_mut.ensures.cases,
-  ap (λ (ls : List ℕ). tables ls c.args.came.now) (whole_chunk c.args.lengths.now c.in-Some.lengths.now c.in-Some.ensures.cases),
-)
-
 pub returns : goal.returns
-returns c =
-    let first = c.in-Some.ensures.cases in
-    let second = c.in-Some-first_chunk_mut.ensures.cases in (
-      room_for_tables (length c.args.lengths.now) (length c.args.came.now) first.enough second.enough,
-      chosen_by_chunks (house_of c.args.house) _ c.args.lengths.now c.args.came.now _ _ c.choose.new.lengths c.choose.new.came (numbers c.choose.result)
-          c.args.house.few_aisles first second c.choose.ensures,
-    )
+returns c = (
+  c.in_ok-numbers.ensures.0,
+  chosen_read (house_of c.args.house) (spots_of c.args.picks.now) (tables c.args.lengths.now c.args.came.now) (tables c.best_numbers.new.lengths c.best_numbers.new.came)
+      c.in_ok-numbers.numbers c.in_ok-numbers.ensures.1 c.map.result (search rules) c.map.ensures.items.long
+      (λ a d l. let call = c.map.ensures.items.at a 0 d l in search rules),
+)

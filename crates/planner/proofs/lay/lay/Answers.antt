@@ -7,7 +7,7 @@ use Rattle.partial.proofs.Parted.{part_within}
 use Rattle.planner.proofs.lay.lay.Goals as goal
 
 pub loop-aisle-init : goal.loop-aisle-init
-loop-aisle-init c = lay_none (house_of c.args.house) c.args.choices c.args.picks.now c.args.uses.now (omega arith)
+loop-aisle-init c = lay_none (house_of c.args.house) c.args.numbers c.args.picks.now c.args.uses.now (omega arith)
 
 pub slice_bounds-lay_aisle-end : goal.slice_bounds-lay_aisle-end
 slice_bounds-lay_aisle-end c =
@@ -19,5 +19,5 @@ pub loop-aisle-preserved : goal.loop-aisle-preserved
 loop-aisle-preserved c =
     let room : places (house_of c.args.house) ≤ length c.loop-aisle.uses
     = omega (arith, places_few (house_of c.args.house) c.args.house.few_aisles c.args.house.little_depth) in
-    lay_turn (house_of c.args.house) c.args.choices c.args.picks.now c.args.uses.now c.loop-aisle.from c.part_end-to.result c.loop-aisle.aisle
-    c.loop-aisle.uses c.lay_aisle.new.uses _ (omega arith) (omega arith) room c.part_end-to.ensures c.lay_aisle.ensures c.loop-aisle.invariant
+    lay_turn (house_of c.args.house) c.args.numbers c.args.picks.now c.args.uses.now c.loop-aisle.from c.part_end-to.result c.loop-aisle.aisle
+    c.loop-aisle.uses c.lay_aisle.new.uses c.from-choice.result (omega arith) room c.part_end-to.ensures c.from-choice.ensures c.lay_aisle.ensures c.loop-aisle.invariant

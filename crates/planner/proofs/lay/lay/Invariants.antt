@@ -1,7 +1,6 @@
 use Rattle.std.proofs.Common.{◌≡◌, ◌≤◌, length, drop}
 use Rattle.house.specs.Reading.{house_of}
 use Rattle.aisle.specs.Values.{spots_of}
-use Rattle.partial.specs.Choice.{numbers}
 use Rattle.planner.specs.Laying.{Laid, at, part_at, picks_from}
 use Rattle.planner.proofs.lay.lay.Given as goal
 
@@ -9,4 +8,4 @@ use Rattle.planner.proofs.lay.lay.Given as goal
 abbrev pub invariant-loop-aisle : goal.invariant-loop-aisle
 invariant-loop-aisle l =
     (l.from ≤ length l.picks) × (spots_of (drop l.from l.picks) ≡ picks_from (spots_of l.picks) l.aisle)
-    × Laid (house_of l.house) (at (numbers l.choices)) (part_at (spots_of l.picks)) l.aisle l.initial.uses l.uses
+    × Laid (house_of l.house) (at l.numbers) (part_at (spots_of l.picks)) l.aisle l.initial.uses l.uses
