@@ -3,8 +3,6 @@ use Rattle.std.proofs.Common.{◌≡◌, ℕ, ◌+◌, ◌<◌, ◌≤◌, List,
 use Rattle.std.specs.Option.{ok_or}
 use Rattle.std.proofs.lemmas.List.{take_more, take_all, get_or-set_same, get_or-set_other}
 use Rattle.house.specs.House.{House, Spot, desk}
-use Rattle.house.specs.declared.layout.Spot as code
-use Rattle.house.specs.declared.refusal.Refusal.TheVariants.{LeadsOut}
 use Rattle.walk.specs.Steps.{Within, landing, follow}
 use Rattle.walk.specs.Checking.{exit_from}
 use Rattle.walk.proofs.Lands.{landing_within, desk_within}
@@ -13,7 +11,7 @@ use Rattle.walk.proofs.Exit.{no_exit, exit_at}
 use Rattle.uses.specs.Counting.{used_by, Exact, Overfills}
 use Rattle.uses.specs.Edges.{Edge, In, edge_dec}
 use Rattle.uses.specs.Layout.{place, held_in}
-use Rattle.uses.specs.Looking.{edge_by, Sees, Looks, TakesStep}
+use Rattle.uses.specs.Looking.{edge_by, Sees}
 use Rattle.uses.proofs.Filled.{filled}
 use Rattle.uses.proofs.Places.{place_alone}
 use Rattle.uses.proofs.Single.{single, single_same, single_other}
@@ -24,10 +22,6 @@ use Rattle.uses.proofs.UsedBy.{used_none, used_push}
 pub told_out : {X E : Type 0} (o : Option X) (e f : E) {r : Result X E} → r ≡ ok_or o e → r ≡ Err f → (o ≡ None) × (e ≡ f)
 told_out (Some x) e f p q = let z : ◌≡◌ {A = ℕ} 0 1 = cc in absurd (omega arith)
 told_out None e f p q = (refl, cc)
-
-pub takes : (h : House) (s : Spot) (b i : ℕ) (o : Option (ℕ × code.Spot)) → Looks h s b o → TakesStep h s b i (ok_or o (LeadsOut i))
-takes h s b i (Some p) sees = sees
-takes h s b i None out = (out, refl)
 
 module _ (h : House) (way : List ℕ) where
   -- after i steps the way is at a spot of the house

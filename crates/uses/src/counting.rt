@@ -20,10 +20,14 @@ fn look_by(house: House, from: Spot, byte: u8) -> Option<(usize, Spot)>
 }
 
 // The i-th step of a way, taken from a spot.
+// Kept: (b) by `ok_or` place and spot are handed on as bytes, taken apart and put together again, and a count takes a tenth to a third longer.
 fn take_step(house: House, from: Spot, i: usize, byte: u8) -> Result<(usize, Spot), Refusal>
     ensures { TakesStep (house_of house) (spot_of from) byte i result }
 {
-    look_by(house, from, byte).ok_or(Refusal::LeadsOut(i))
+    let Some((entry, to)) = look_by(house, from, byte) else {
+        return Err(Refusal::LeadsOut(i));
+    };
+    Ok((entry, to))
 }
 
 // Holds each step of a way to the house.

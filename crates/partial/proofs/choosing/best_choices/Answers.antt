@@ -1,4 +1,4 @@
-use Rattle.std.proofs.Common.{◌≡◌, List, ℕ, rules}
+use Rattle.std.proofs.Common.{rules}
 use Rattle.house.specs.Reading.{house_of}
 use Rattle.aisle.specs.Values.{spots_of}
 use Rattle.partial.specs.Table.{tables}

@@ -1,4 +1,4 @@
-use Rattle.std.proofs.Common.{◌≡◌, ℕ, ◌-◌, get_or, replicate, refl, ap, arith}
+use Rattle.std.proofs.Common.{ℕ, ◌-◌, get_or, replicate, refl, ap, arith}
 use Rattle.classes.specs.Values.{class_of}
 use Rattle.partial.proofs.Traced.{all_zero, read_none, read_more, read_all}
 use Rattle.partial.proofs.trace.trace.Goals as goal
