@@ -24,8 +24,8 @@ module _ (h : House) (ss : List Spot) (was is : Tables) (ns : List ℕ) (chosen_
   each_choice a c l =
       subst (λ (t : Tables). get_or t.came (cell a c) 0 ≤ 209) (sym chosen_here.table) (filled_small h h.aisles 0 ss was a c (omega arith) (λ m. absurd (omega arith)))
 
-  number_small : (a : ℕ) → get_or ns a 0 ≤ 209
-  number_small a =
+  each_number_small : (a : ℕ) → get_or ns a 0 ≤ 209
+  each_number_small a =
       elim (dec_lt a h.aisles) [
         | yes l ↦ omega (arith, chosen_here.each a l, each_choice a (class_back h.aisles is.came (ending is.lengths (h.aisles - 1)) (h.aisles - 1 - a)) l)
         | no n ↦ omega (arith, chosen_here.others a (omega arith))
@@ -37,5 +37,5 @@ module _ (h : House) (ss : List Spot) (was is : Tables) (ns : List ℕ) (chosen_
       subst (Chosen h ss was is)
       (sym (ext_get_or 0 (numbers cs) ns (length-map cs number_of ∙ n ∙ sym m)
       (λ a l. get_or-map number_of cs a none_there 0 (omega (arith, length-map cs number_of))
-      ∙ number_stands (get_or ns a 0) (get_or cs a none_there) (number_small a) (stands a none_there (omega (arith, length-map cs number_of))))))
+      ∙ number_stands (get_or ns a 0) (get_or cs a none_there) (each_number_small a) (stands a none_there (omega (arith, length-map cs number_of))))))
       chosen_here
